@@ -1,0 +1,60 @@
+-- Tests, and facts about every value of a list. Assumes nothing.
+use mathlib.Core.Path.{_≡_, refl, sym, _∙_}
+use mathlib.Core.List.{List, [], _∷_}
+use Prim.Native.Nat.{ℕ, zero, suc, _<_}
+use native.Mathlib.Nat.{le-of-suc-le-suc, not-suc-le-zero}
+use lib.ListN.{length, getD}
+use mathlib.Core.Bool.{Bool, true, false, not, _&&_, _||_, true≢false}
+
+-- by the value of a test
+pub by-test : {P : Type 0} (t : Bool) → (t ≡ true → P) → (t ≡ false → P) → P
+by-test true f g = f refl
+by-test false f g = g refl
+
+-- a test has one value
+pub clash : {P : Type 0} {t : Bool} → t ≡ true → t ≡ false → P
+clash p q = absurd (true≢false (sym p ∙ q))
+
+-- what a conjunction, a disjunction and a negation say
+pub and-left : (a b : Bool) → a && b ≡ true → a ≡ true
+and-left true b e = refl
+and-left false b e = e
+
+pub and-right : (a b : Bool) → a && b ≡ true → b ≡ true
+and-right true b e = e
+and-right false b e = absurd (true≢false (sym e))
+
+pub and-true : {a b : Bool} → a ≡ true → b ≡ true → a && b ≡ true
+and-true {a} {b} p q = rw (p, q)
+
+pub and-false-left : {a : Bool} (b : Bool) → a ≡ false → a && b ≡ false
+and-false-left b p = rw p
+
+pub and-false-right : (a : Bool) {b : Bool} → b ≡ false → a && b ≡ false
+and-false-right true q = q
+and-false-right false q = refl
+
+pub or-false-left : (a b : Bool) → a || b ≡ false → a ≡ false
+or-false-left true b e = e
+or-false-left false b e = refl
+
+pub or-false-right : (a b : Bool) → a || b ≡ false → b ≡ false
+or-false-right true b e = absurd (true≢false e)
+or-false-right false b e = e
+
+-- two tests that imply each other are the same
+pub same-test : (a b : Bool) → (a ≡ true → b ≡ true) → (b ≡ true → a ≡ true) → a ≡ b
+same-test true b f g = sym (f refl)
+same-test false true f g = g refl
+same-test false false f g = refl
+
+-- A fact about every value of a list.
+unfoldable pub Each : {A : Type 0} → (A → Type 0) → List A → Type 0
+Each Q [] = Unit {0}
+Each Q (a ∷ l) = Q a × Each Q l
+
+pub each-at : {A : Type 0} (Q : A → Type 0) (l : List A) → Each Q l → (i : ℕ) (d : A) → i < length l → Q (getD l i d)
+unfolding Each
+each-at Q [] h i d p = absurd (not-suc-le-zero p)
+each-at Q (a ∷ l) h zero d p = h .0
+each-at Q (a ∷ l) h (suc i) d p = each-at Q l (h .1) i d (le-of-suc-le-suc p)

@@ -1,0 +1,122 @@
+-- What is known of a reader that gave a value: each law takes one step apart and hands its parts to what follows. Assumes nothing.
+use mathlib.Core.Path.{_≡_, refl, sym, ap, _∙_, subst}
+use mathlib.Core.Bool.{Bool, true, false, _&&_}
+use mathlib.Core.List.{List, [], _∷_}
+use Prim.Native.Nat.{ℕ, zero, suc, _+_, _*_, _<_, _≤_}
+use native.Mathlib.Nat.{suc-mul}
+use native.Mathlib.Omega.{arith}
+use lib.Dec.{ltb}
+use lib.ListN.{length}
+use borrow.Author.Tests.{ltb-true, lt-ltb}
+use Rattle.bits.specs.Bits.{bits}
+use Rattle.bits.specs.Reading.{Answer, given, refused, Read, got, stop, Reader, bind, _>>=_, _>>_, give, fieldAfter, field, refuseIf, many, allZero, closing, answer, readAll}
+use Rattle.bits.proofs.Logic.{and-left, and-right, Each}
+
+-- a refusal is no value
+pub stop-got : {A P : Type 0} {n : ℕ} {a : A} {l : List ℕ} → stop n ≡ got a l → P
+stop-got e = let z : _≡_ {A = ℕ} 0 1 = cc in absurd (omega arith)
+
+pub refused-given : {A P : Type 0} {n : ℕ} {a : A} → refused n ≡ given a → P
+refused-given e = let z : _≡_ {A = ℕ} 0 1 = cc in absurd (omega arith)
+
+pub got-value : {A : Type 0} {a b : A} {l m : List ℕ} → got a l ≡ got b m → a ≡ b
+got-value e = cc
+
+pub got-rest : {A : Type 0} {a b : A} {l m : List ℕ} → got a l ≡ got b m → l ≡ m
+got-rest e = cc
+
+pub bind-got : {A B P : Type 0} (m : Reader A) (f : A → Reader B) (l : List ℕ) {b : B} {rest : List ℕ} → (m >>= f) l ≡ got b rest
+    → ((a : A) (after : List ℕ) → m l ≡ got a after → f a after ≡ got b rest → P) → P
+unfolding _>>=_ bind
+bind-got {A} {B} {P} m f l {b} {rest} e k = go (m l) refl e
+  where
+    go : (r : Read A) → m l ≡ r → bind r f ≡ got b rest → P
+    go (got a after) q p = k a after q p
+    go (stop n) q p = stop-got p
+
+pub then-got : {A B P : Type 0} (m : Reader A) (r : Reader B) (l : List ℕ) {b : B} {rest : List ℕ} → (m >> r) l ≡ got b rest
+    → ((a : A) (after : List ℕ) → m l ≡ got a after → r after ≡ got b rest → P) → P
+unfolding _>>_ _>>=_
+then-got m r l e k = bind-got m (λ a. r) l e k
+
+pub give-got : {A P : Type 0} {a b : A} {l rest : List ℕ} → give a l ≡ got b rest → (a ≡ b → l ≡ rest → P) → P
+unfolding give
+give-got e k = k (got-value e) (got-rest e)
+
+pub refuse-got : {P : Type 0} (n : ℕ) (t : Bool) (l : List ℕ) {u : Unit {0}} {rest : List ℕ} → refuseIf n t l ≡ got u rest
+    → (t ≡ false → l ≡ rest → P) → P
+unfolding refuseIf
+refuse-got n true l e k = stop-got e
+refuse-got n false l e k = k refl (got-rest e)
+
+fieldAfter-length : (n w high : ℕ) (l : List ℕ) {v : ℕ} {rest : List ℕ} → fieldAfter n w high l ≡ got v rest → length l ≡ w + length rest
+unfolding fieldAfter
+fieldAfter-length n zero high l e = let r = ap length (got-rest e) in omega (arith, r)
+fieldAfter-length n (suc w) high [] e = stop-got e
+fieldAfter-length n (suc w) high (b ∷ l) e = let r = fieldAfter-length n w (high * 2 + b) l e in omega (arith, r)
+
+-- a field takes its width
+pub field-length : (n w : ℕ) (l : List ℕ) {v : ℕ} {rest : List ℕ} → field n w l ≡ got v rest → length l ≡ w + length rest
+unfolding field
+field-length n w l e = fieldAfter-length n w 0 l e
+
+-- the end: fewer than eight bits were left, all zero
+pub closing-got : {P : Type 0} (n : ℕ) (l : List ℕ) {u : Unit {0}} {rest : List ℕ} → closing n l ≡ got u rest
+    → (length l < 8 → allZero l ≡ true → P) → P
+unfolding closing
+closing-got {P} n l {u} {rest} e k = go (ltb (length l) 8 && allZero l) refl e
+  where
+    go : (t : Bool) → ltb (length l) 8 && allZero l ≡ t → elim t as (λ x. Read (Unit {0})) [ true ↦ got tt [] | false ↦ stop n ] ≡ got u rest → P
+    go true q p = k (ltb-true _ _ (and-left (ltb (length l) 8) (allZero l) q)) (and-right (ltb (length l) 8) (allZero l) q)
+    go false q p = stop-got p
+
+pub readAll-given : {A P : Type 0} (r : Reader A) (s : List ℕ) {a : A} → readAll r s ≡ given a
+    → ((rest : List ℕ) → r (bits s) ≡ got a rest → P) → P
+unfolding readAll answer
+readAll-given {A} {P} r s {a} e k = go (r (bits s)) refl e
+  where
+    go : (x : Read A) → r (bits s) ≡ x → answer x ≡ given a → P
+    go (got b rest) q p = let same : b ≡ a = cc in k rest (q ∙ ap (λ (z : A). got z rest) same)
+    go (stop n) q p = refused-given p
+
+-- A reader that takes w bits, and whose value has the property Q.
+pub record Takes {A : Type 0} (w : ℕ) (Q : A → Type 0) (r : Reader A) : Type 0 where
+  pub taken : (l : List ℕ) (a : A) (rest : List ℕ) → r l ≡ got a rest → (length l ≡ w + length rest) × Q a
+
+-- k such readings take k times the bits, and every value has the property
+pub many-takes : {A : Type 0} {w : ℕ} {Q : A → Type 0} (r : Reader A) → Takes w Q r → (k : ℕ) (l : List ℕ) {as′ : List A} {rest : List ℕ}
+    → many k r l ≡ got as′ rest → (length as′ ≡ k) × (length l ≡ k * w + length rest) × Each Q as′
+unfolding many Each
+many-takes {w = w} {Q} r t zero l e =
+    give-got e λ p q. let n = ap length p in let m = ap length q in (omega (arith, n), omega (arith, m), subst (Each Q) p tt)
+many-takes {A} {w} {Q} r t (suc k) l {as′} {rest} e =
+    bind-got r (λ a. many k r >>= λ more. give (a ∷ more)) l e λ a after ea e′.
+    bind-got (many k r) (λ more. give (a ∷ more)) after e′ λ more last em e″.
+    let one = t .taken l a after ea in
+    let ih = many-takes r t k after em in
+    give-got e″ λ p q.
+    let n = ap length p in
+    let m = ap length q in
+    let s = suc-mul k w in
+    (omega (arith, n, ih .0), omega (arith, m, s, one .0, ih .1), subst (Each Q) p (one .1, ih .2))
+
+-- the other way: a step whose first part gives a value goes on with it
+pub bind-ok : {A B : Type 0} (m : Reader A) (f : A → Reader B) (l : List ℕ) {a : A} {after : List ℕ} → m l ≡ got a after → (m >>= f) l ≡ f a after
+unfolding _>>=_ bind
+bind-ok m f l e = ap (λ (r : Read _). bind r f) e
+
+pub then-ok : {A B : Type 0} (m : Reader A) (r : Reader B) (l : List ℕ) {a : A} {after : List ℕ} → m l ≡ got a after → (m >> r) l ≡ r after
+unfolding _>>_ bind
+then-ok m r l e = ap (λ (x : Read _). bind x (λ _. r)) e
+
+pub refuse-ok : (n : ℕ) (t : Bool) (l : List ℕ) → t ≡ false → refuseIf n t l ≡ got tt l
+unfolding refuseIf
+refuse-ok n t l e = rw e
+
+pub closing-ok : (n : ℕ) (l : List ℕ) → length l < 8 → allZero l ≡ true → closing n l ≡ got tt []
+unfolding closing
+closing-ok n l p z = let e : ltb (length l) 8 && allZero l ≡ true = rw (lt-ltb (length l) 8 p, z) in rw (e, closing)
+
+pub readAll-ok : {A : Type 0} (r : Reader A) (s : List ℕ) {a : A} {rest : List ℕ} → r (bits s) ≡ got a rest → readAll r s ≡ given a
+unfolding readAll answer
+readAll-ok r s e = ap answer e

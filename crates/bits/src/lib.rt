@@ -1,0 +1,1 @@
+// Fields of a string of bytes. So far only definitions: see specs/.

@@ -1,0 +1,51 @@
+-- What a pass by the check says: the ticket was read as a sound job, and the sheet as a schedule of that job. Assumes nothing.
+use mathlib.Core.Path.{_≡_, refl}
+use mathlib.Core.List.{List}
+use Prim.Native.Nat.{ℕ}
+use Rattle.bits.specs.Bits.{bits}
+use Rattle.bits.specs.Reading.{Answer, given, refused, Reader, got}
+use Rattle.bits.proofs.Bits.{bits-are}
+use Rattle.bits.proofs.Reading.{readAll-given, refused-given}
+use Rattle.model.specs.Job.{Job}
+use Rattle.model.specs.Ticket.{ticketReader, ticketOf}
+use Rattle.model.specs.Playing.{Schedule, start}
+use Rattle.model.specs.Sheet.{sheetReader, scheduleRead}
+use Rattle.model.specs.Calls.{Counts, countsOf, passOf, checkFor, checking}
+use Rattle.model.proofs.Ticket.{Sound, reader-sound}
+use Rattle.model.proofs.Sheets.{SheetRead, sheet-read}
+
+-- an accepted ticket's job is sound
+pub ticket-sound : (t : List ℕ) (j : Job) → ticketOf t ≡ given j → Sound j
+unfolding ticketOf
+ticket-sound t j e = readAll-given ticketReader t e λ rest r. reader-sound (bits t) j rest r .0
+
+pub schedule-read : (j : Job) (s : List ℕ) (schedule : Schedule) → scheduleRead j s ≡ given schedule → SheetRead j (start j) (bits s) schedule
+unfolding scheduleRead
+schedule-read j s schedule e = readAll-given (sheetReader j (start j)) s e λ rest r. sheet-read j (start j) (bits s) schedule rest (bits-are s) r
+
+pub record Passed (t s : List ℕ) (c : Counts) : Type 0 where
+  pub job : Job
+  pub ticket : ticketOf t ≡ given job
+  pub sound : Sound job
+  pub schedule : Schedule
+  pub read : SheetRead job (start job) (bits s) schedule
+  pub counts : countsOf schedule ≡ c
+
+pub passed : (t s : List ℕ) (c : Counts) → checking t s ≡ given c → Passed t s c
+unfolding checking checkFor passOf
+passed t s c e = go (ticketOf t) refl e
+  where
+    pass : (j : Job) → ticketOf t ≡ given j → (a : Answer Schedule) → scheduleRead j s ≡ a → passOf a ≡ given c → Passed t s c
+    pass j q (given schedule) r p = record {
+      job = j;
+      ticket = q;
+      sound = ticket-sound t j q;
+      schedule = schedule;
+      read = schedule-read j s schedule r;
+      counts = cc;
+    }
+    pass j q (refused n) r p = refused-given p
+
+    go : (a : Answer Job) → ticketOf t ≡ a → checkFor s a ≡ given c → Passed t s c
+    go (given j) q p = pass j q (scheduleRead j s) refl p
+    go (refused n) q p = refused-given p

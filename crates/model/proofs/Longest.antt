@@ -1,0 +1,119 @@
+-- Document 01, "Ticket and sheet": "The longest ticket has 2,507 bytes, the longest sheet 40,962." Assumes nothing.
+use mathlib.Core.Path.{_≡_, refl, sym, ap, _∙_}
+use mathlib.Core.List.{List, [], _∷_, _++_}
+use Prim.Native.Nat.{ℕ, zero, suc, _+_, _*_, _≤_, _<_}
+use native.Mathlib.Nat.{add-comm, zero-mul, suc-mul}
+use native.Mathlib.Omega.{arith}
+use lib.ListN.{length, replicate, length-append, length-replicate}
+use Rattle.bits.specs.Bits.{digits, bits, bytesFor, pack}
+use Rattle.bits.specs.Reading.{given, _>>=_, _>>_, bind, give, field, refuseIf, many, closing, answer, readAll}
+use Rattle.bits.proofs.Logic.{Each}
+use Rattle.bits.proofs.Bits.{length-digits, length-bits, length-pack}
+use Rattle.bits.proofs.Reading.{readAll-given}
+use Rattle.model.specs.Job.{Job, diskCount}
+use Rattle.model.specs.Ticket.{slotsField, diskField, refField, ticketReader, ticketOf}
+use Rattle.model.specs.Playing.{Action, idle, fetch, replace, Schedule, State, start}
+use Rattle.model.specs.Sheet.{actionBits, roundBits, roundsBits, sheetBits, sheetOf}
+use Rattle.model.specs.Calls.{Counts, checking}
+use Rattle.model.proofs.Ticket.{reader-sound}
+use Rattle.model.proofs.Sheets.{Allowed}
+use Rattle.model.proofs.Check.{passed}
+
+-- every accepted ticket is that short
+pub ticket-length : (t : List ℕ) (j : Job) → ticketOf t ≡ given j → length t ≤ 2507
+unfolding ticketOf
+ticket-length t j e =
+    readAll-given ticketReader t e λ rest r.
+    let s = reader-sound (bits t) j rest r in
+    let l = length-bits t in
+    omega (arith, s, l)
+
+-- eight disks with a slot each, 512 blocks on disk 0, and 2,048 references to block 0
+unfoldable pub longTicket : List ℕ
+unfolding pack digits
+longTicket = pack (digits 4 8 ++ digits 56 0x02040810204081 ++ digits 10 512 ++ replicate 1536 0 ++ digits 12 2048 ++ replicate 18432 0)
+
+-- and one is that long
+pub ticket-longest : (ticketOf longTicket ≡ given (record { slots = replicate 8 1; disks = replicate 512 0; refs = replicate 2048 0 })) × (length longTicket ≡ 2507)
+unfolding longTicket _>>=_ _>>_ bind give field refuseIf many closing answer readAll slotsField diskField refField ticketReader ticketOf
+ticket-longest = (refl, refl)
+
+-- an action takes at most 20 bits
+
+length-action : (a : Action) → length (actionBits a) ≤ 20
+unfolding actionBits
+length-action idle = omega arith
+length-action (fetch x) = let e = length-append (digits 9 x) (0 ∷ []) in let d = length-digits 9 x in omega (arith, e, d)
+length-action (replace x z) =
+    let e = length-append (digits 9 x) (1 ∷ digits 9 z) in let d = length-digits 9 x in let f = length-digits 9 z in omega (arith, e, d, f)
+
+length-round : (actions : List Action) → length (roundBits actions) ≤ length actions * 20
+unfolding roundBits
+length-round [] = omega arith
+length-round (a ∷ more) =
+    let e = length-append (actionBits a) (roundBits more) in
+    let one = length-action a in
+    let ih = length-round more in
+    let s = suc-mul (length more) 20 in
+    omega (arith, e, one, ih, s)
+
+pub length-rounds : (schedule : Schedule) → Each (λ (actions : List Action). length actions ≤ 8) schedule → length (roundsBits schedule) ≤ length schedule * 160
+unfolding roundsBits Each
+length-rounds [] h = omega arith
+length-rounds (actions ∷ more) h =
+    let e = length-append (roundBits actions) (roundsBits more) in
+    let one = length-round actions in
+    let ih = length-rounds more (h .1) in
+    let few = h .0 in
+    let s = suc-mul (length more) 160 in
+    omega (arith, e, one, ih, few, s)
+
+-- no sheet of 2,048 rounds of eight actions is longer
+pub sheet-length : (schedule : Schedule) → length schedule ≤ 2048 → Each (λ (actions : List Action). length actions ≤ 8) schedule → length (sheetOf schedule) ≤ 40962
+unfolding sheetOf sheetBits
+sheet-length schedule few eights =
+    let e = length-append (digits 12 (length schedule)) (roundsBits schedule) in
+    let d = length-digits 12 (length schedule) in
+    let r = length-rounds schedule eights in
+    let p = length-pack (digits 12 (length schedule) ++ roundsBits schedule) in
+    omega (arith, e, d, r, p)
+
+-- and one whose every action discards a block is that long
+
+round-same : (k : ℕ) (a : Action) → length (roundBits (replicate k a)) ≡ k * length (actionBits a)
+unfolding roundBits
+round-same zero a = sym (zero-mul (length (actionBits a)))
+round-same (suc k) a = length-append (actionBits a) (roundBits (replicate k a)) ∙ ap (λ (n : ℕ). length (actionBits a) + n) (round-same k a) ∙ add-comm _ _ ∙ sym (suc-mul k (length (actionBits a)))
+
+rounds-same : (k : ℕ) (actions : List Action) → length (roundsBits (replicate k actions)) ≡ k * length (roundBits actions)
+unfolding roundsBits
+rounds-same zero actions = sym (zero-mul (length (roundBits actions)))
+rounds-same (suc k) actions = length-append (roundBits actions) (roundsBits (replicate k actions)) ∙ ap (λ (n : ℕ). length (roundBits actions) + n) (rounds-same k actions) ∙ add-comm _ _ ∙ sym (suc-mul k (length (roundBits actions)))
+
+pub sheet-longest : length (sheetOf (replicate 2048 (replicate 8 (replace 1 0)))) ≡ 40962
+unfolding sheetOf sheetBits actionBits digits
+sheet-longest =
+    let rounds = replicate 2048 (replicate 8 (replace 1 0)) in
+    length-pack (digits 12 (length rounds) ++ roundsBits rounds)
+    ∙ ap bytesFor (length-append (digits 12 (length rounds)) (roundsBits rounds)
+    ∙ ap (λ (n : ℕ). 12 + n) (rounds-same 2048 (replicate 8 (replace 1 0)) ∙ ap (λ (n : ℕ). 2048 * n) (round-same 8 (replace 1 0))))
+
+-- a sheet that the check passes is no longer either
+
+allowed-each : (j : Job) → diskCount j ≤ 8 → (s : State) (schedule : Schedule) → Allowed j s schedule → Each (λ (actions : List Action). length actions ≤ 8) schedule
+unfolding Allowed Each
+allowed-each j few s [] h = tt
+allowed-each j few s (actions ∷ more) h = ((let e = h .0 in omega (arith, e)), allowed-each j few _ more (h .3))
+
+pub passed-length : (t s : List ℕ) (c : Counts) → checking t s ≡ given c → length s ≤ 40962
+unfolding sheetBits
+passed-length t s c e =
+    let p = passed t s c e in
+    let r = p .read in
+    let schedule = p .schedule in
+    let w = ap length (r .wrote) ∙ length-append (sheetBits schedule) (r .tail) in
+    let a = length-append (digits 12 (length schedule)) (roundsBits schedule) in
+    let d = length-digits 12 (length schedule) in
+    let n = length-rounds schedule (allowed-each (p .job) (p .sound .fewDisks) (start (p .job)) schedule (r .allowed)) in
+    let l = length-bits s in
+    omega (arith, w, a, d, n, l, r .few, r .short)

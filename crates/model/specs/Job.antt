@@ -1,0 +1,31 @@
+-- What a ticket says. Document 01, "What the work covers": "Blocks are only read, each lies on one unit (disk)", and the table of
+-- "Ticket and sheet": disks D, buffer slots of each disk, blocks B, the disk of each block, references N, each reference.
+-- Disks, blocks and positions in the reference string are numbers from 0. Assumes nothing.
+use mathlib.Core.List.{List}
+use Prim.Native.Nat.{ℕ}
+use lib.ListN.{length, getD}
+
+pub record Job : Type 0 where
+  pub slots : List ℕ
+  pub disks : List ℕ
+  pub refs : List ℕ
+
+-- D, B and N
+abbrev pub diskCount : Job → ℕ
+diskCount j = length (j .slots)
+
+abbrev pub blockCount : Job → ℕ
+blockCount j = length (j .disks)
+
+abbrev pub refCount : Job → ℕ
+refCount j = length (j .refs)
+
+-- the slots of disk d, the disk of block b, and the block of the reference at position i
+abbrev pub slotsOf : Job → ℕ → ℕ
+slotsOf j d = getD (j .slots) d 0
+
+abbrev pub diskOf : Job → ℕ → ℕ
+diskOf j b = getD (j .disks) b 0
+
+abbrev pub refAt : Job → ℕ → ℕ
+refAt j i = getD (j .refs) i 0

@@ -1,0 +1,59 @@
+-- Valid schedules, said without bits and without an order of tests. Document 01, "Playing a round": "A sheet is valid if no action is refused
+-- below and all N references are consumed by its last round (axioms A1 and A2 of document 000)." `Promises` proves that these are the sheets
+-- that the check passes. Assumes nothing.
+use mathlib.Core.Path.{_≡_}
+use mathlib.Core.Bool.{Bool, true, false}
+use mathlib.Core.List.{List, [], _∷_, _++_}
+use Prim.Native.Nat.{ℕ, suc, _≤_, _<_}
+use lib.ListN.{length, replicate}
+use Rattle.bits.specs.Bits.{bits}
+use Rattle.model.specs.Job.{Job, diskCount, blockCount, refCount, slotsOf, diskOf, refAt}
+use Rattle.model.specs.Playing.{Action, idle, fetch, replace, Schedule, State, start, isResident, load, act, actAll}
+use Rattle.model.specs.Sheet.{sheetBits}
+
+-- Block b lies on disk d, and is in its buffer or not.
+pub record Block (j : Job) (marks : List Bool) (d b : ℕ) (resident : Bool) : Type 0 where
+  pub known : b < blockCount j
+  pub onDisk : diskOf j b ≡ d
+  pub mark : isResident marks b ≡ resident
+
+-- An action of disk d that the buffers allow: the fetched block is outside its buffer, the discarded one inside.
+unfoldable pub Legal : Job → List Bool → ℕ → Action → Type 0
+Legal j marks d idle = Unit {0}
+Legal j marks d (fetch x) = Block j marks d x false
+Legal j marks d (replace x z) = Block j marks d x false × Block j marks d z true
+
+-- The actions of the disks from d on, each legal when it is played.
+unfoldable pub LegalAll : Job → List Bool → ℕ → List Action → Type 0
+unfolding Legal act
+LegalAll j marks d [] = Unit {0}
+LegalAll j marks d (a ∷ more) = Legal j marks d a × LegalAll j (act marks a) (suc d) more
+
+-- One round from the state s to the state t.
+pub record Round (j : Job) (s : State) (actions : List Action) (t : State) : Type 0 where
+  -- "for each round and each disk in order one action"
+  pub oneEach : length actions ≡ diskCount j
+  pub legal : LegalAll j (s .resident) 0 actions
+  pub played : t .resident ≡ actAll (s .resident) actions
+  -- A2. "No disk ever holds more blocks than its slots."
+  pub a2 : (d : ℕ) → d < diskCount j → load j (t .resident) d ≤ slotsOf j d
+  -- A1. The references from the next read on are consumed in order, each with its block in the buffer,
+  pub onward : s .next ≤ t .next
+  pub within : t .next ≤ refCount j
+  pub a1 : (i : ℕ) → s .next ≤ i → i < t .next → isResident (t .resident) (refAt j i) ≡ true
+  -- "and the reading stops at the first missing block or at the end"
+  pub stops : t .next < refCount j → isResident (t .resident) (refAt j (t .next)) ≡ false
+  pub counted : t .round ≡ suc (s .round)
+
+-- A schedule that can be played from the state s, and consumes all references.
+unfoldable pub ValidFrom : Job → State → Schedule → Type 0
+ValidFrom j s [] = s .next ≡ refCount j
+ValidFrom j s (actions ∷ more) = (t : State) × Round j s actions t × ValidFrom j t more
+
+-- A sheet of a job: at most 2,048 rounds of a valid schedule, written as bits, then fewer than eight zero bits and no byte after.
+pub record ValidSheet (j : Job) (sheet : List ℕ) (schedule : Schedule) : Type 0 where
+  pub fewRounds : length schedule ≤ 2048
+  pub valid : ValidFrom j (start j) schedule
+  pub closingBits : ℕ
+  pub fewClosing : closingBits < 8
+  pub written : bits sheet ≡ sheetBits schedule ++ replicate closingBits 0
