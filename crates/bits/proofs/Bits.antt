@@ -1,7 +1,7 @@
 -- Lengths, and the way there and back: a number written as a field reads back, a field that was read is the field written, and the bits of
 -- packed bytes are the bits with zeros after them. Assumes nothing.
 use mathlib.Core.Path.{_≡_, refl, sym, ap, ap₂, _∙_, subst}
-use mathlib.Core.List.{List, [], _∷_, _++_, append-assoc}
+use mathlib.Core.List.{List, [], _∷_, _++_}
 use Prim.Native.Nat.{ℕ, zero, suc, _+_, _-_, _*_, _/_, _%_, _^_, _<_, _≤_}
 use native.Mathlib.Nat.{add-zero, zero-add, add-assoc, mul-one, zero-mul, suc-mul, mul-assoc, mul-comm, add-mul, pow-suc, mod-lt, mod-one, mod-eq-of-lt, mul-mod-left, mul-add-div-right, mul-add-mod-self-right}
 use native.Mathlib.Omega.{arith}
@@ -11,7 +11,7 @@ use lib.ListN.{length, drop, replicate, length-append, length-drop}
 use lib.Seq.{drop-nil}
 use lib.Pow.{pow-pos}
 use Rattle.bits.specs.Bits.{digits, bits, leading, bytes, bytesFor, pack}
-use Rattle.bits.specs.Reading.{Reader, got, stop, fieldAfter, field}
+use Rattle.bits.specs.Reading.{got, fieldAfter, field}
 use Rattle.bits.proofs.Logic.{Each}
 use Rattle.bits.proofs.Reading.{got-value, got-rest, stop-got}
 
@@ -54,10 +54,10 @@ length-pack l = length-bytes (bytesFor (length l)) l
 
 -- a bit is 0 or 1
 
-pub Bits : List ℕ → Type 0
+unfoldable pub Bits : List ℕ → Type 0
 Bits l = Each (λ (b : ℕ). b < 2) l
 
-digits-are : (w v : ℕ) (l : List ℕ) → Bits l → Bits (digits w v ++ l)
+pub digits-are : (w v : ℕ) (l : List ℕ) → Bits l → Bits (digits w v ++ l)
 unfolding digits Bits Each
 digits-are zero v l h = h
 digits-are (suc w) v l h = (mod-lt (v / 2 ^ w) (lit< tt), digits-are w v l h)

@@ -1,15 +1,15 @@
 -- What is known of a reader that gave a value: each law takes one step apart and hands its parts to what follows. Assumes nothing.
-use mathlib.Core.Path.{_≡_, refl, sym, ap, _∙_, subst}
+use mathlib.Core.Path.{_≡_, refl, ap, _∙_, subst}
 use mathlib.Core.Bool.{Bool, true, false, _&&_}
 use mathlib.Core.List.{List, [], _∷_}
-use Prim.Native.Nat.{ℕ, zero, suc, _+_, _*_, _<_, _≤_}
+use Prim.Native.Nat.{ℕ, zero, suc, _+_, _*_, _<_}
 use native.Mathlib.Nat.{suc-mul}
 use native.Mathlib.Omega.{arith}
 use lib.Dec.{ltb}
 use lib.ListN.{length}
 use borrow.Author.Tests.{ltb-true, lt-ltb}
 use Rattle.bits.specs.Bits.{bits}
-use Rattle.bits.specs.Reading.{Answer, given, refused, Read, got, stop, Reader, bind, _>>=_, _>>_, give, fieldAfter, field, refuseIf, many, allZero, closing, answer, readAll}
+use Rattle.bits.specs.Reading.{given, refused, Read, got, stop, Reader, bind, _>>=_, _>>_, give, fieldAfter, field, refuseIf, many, allZero, closing, answer, readAll}
 use Rattle.bits.proofs.Logic.{and-left, and-right, Each}
 
 -- a refusal is no value

@@ -1,20 +1,19 @@
 -- Document 01, "Playing a round": "At each moment the blocks in a disk's buffer number its fetches so far less its discards so far", and "No disk
 -- ever holds more blocks than its slots." Assumes nothing.
-use mathlib.Core.Path.{_≡_, refl, sym, ap, _∙_, subst}
+use mathlib.Core.Path.{_≡_, refl, sym, ap, _∙_}
 use mathlib.Core.Logic.{_≢_, _⊎_, inl, inr, ⊎-elim}
 use mathlib.Core.Bool.{Bool, true, false, _&&_}
-use mathlib.Core.List.{List, [], _∷_, _++_}
+use mathlib.Core.List.{List, [], _∷_}
 use Prim.Native.Nat.{ℕ, zero, suc, _+_, _≤_, _<_}
-use native.Mathlib.Nat.{add-zero, add-suc}
 use native.Mathlib.Omega.{arith}
 use lib.Dec.{eqb, ltb}
 use lib.ListN.{length, getD, set, take, length-set, length-replicate, getD-replicate, List·getD-eq-default}
 use lib.Seq.{getD-set-same, getD-set-other}
-use borrow.Author.Tests.{eq-eqb, eqb-true, ltb-true, ltb-false}
+use borrow.Author.Tests.{eq-eqb, eqb-true, eqb-false, ltb-true, ltb-false}
 use Rattle.bits.proofs.Logic.{by-test, clash, and-false-left, and-false-right}
 use Rattle.model.specs.Job.{Job, diskCount, blockCount, slotsOf, diskOf}
-use Rattle.model.specs.Playing.{count, Action, idle, fetch, replace, Schedule, State, start, noneResident, isResident, load, act, actAll, playRound, play, fetched, discarded, total}
-use Rattle.model.specs.Valid.{Block, Legal, LegalAll, Round, ValidFrom}
+use Rattle.model.specs.Playing.{Action, idle, fetch, replace, Schedule, State, start, noneResident, isResident, load, act, actAll, playRound, play, fetched, discarded, total}
+use Rattle.model.specs.Valid.{Legal, LegalAll, ValidFrom}
 use Rattle.model.proofs.Counting.{count-same, count-insert, count-zero}
 use Rattle.model.proofs.Playing.{round-plays}
 
@@ -37,6 +36,13 @@ mark-set marks x v p = getD-set-same marks x v false p
 pub mark-kept : (marks : List Bool) (x b : ℕ) (v : Bool) → b ≢ x → isResident (set marks x v) b ≡ isResident marks b
 mark-kept marks x b v n = getD-set-other marks x b v false n
 
+-- a mark that is cleared is false, also past the end
+pub mark-cleared : (marks : List Bool) (z : ℕ) → isResident (set marks z false) z ≡ false
+mark-cleared marks z =
+    by-test (ltb z (length marks))
+    (λ e. mark-set marks z false (ltb-true z (length marks) e))
+    (λ e. List·getD-eq-default (set marks z false) false {n = z} (let l = length-set marks z false in let p = ltb-false z (length marks) e in omega (arith, l, p)))
+
 -- a fetched block is in the buffer, a discarded one is not, and every other mark is kept
 pub entered : (marks : List Bool) (x : ℕ) → x < length marks → isResident (act marks (fetch x)) x ≡ true
 unfolding act
@@ -58,6 +64,15 @@ pub replace-kept : (marks : List Bool) (x z b : ℕ) → b ≢ x → b ≢ z →
 unfolding act
 replace-kept marks x z b n m = mark-kept (set marks z false) x b true n ∙ mark-kept marks z b false m
 
+-- no block enters but the fetched one
+pub still-out : (marks : List Bool) (x z b : ℕ) → b ≢ x → isResident marks b ≡ false → isResident (act marks (replace x z)) b ≡ false
+unfolding act
+still-out marks x z b n e =
+    mark-kept (set marks z false) x b true n
+    ∙ by-test (eqb b z)
+    (λ y. let q = eqb-true b z y in ap (isResident (set marks z false)) q ∙ mark-cleared marks z)
+    (λ f. mark-kept marks z b false (eqb-false b z f) ∙ e)
+
 -- a legal action changes no mark of another disk's block
 pub act-elsewhere : (j : Job) (marks : List Bool) (d : ℕ) (a : Action) → Legal j marks d a → (b : ℕ) → diskOf j b ≢ d → isResident (act marks a) b ≡ isResident marks b
 unfolding Legal act
@@ -72,7 +87,7 @@ apart marks x z e f q = clash f (ap (isResident marks) q ∙ e)
 
 -- the load after an action
 
-load-elsewhere : (j : Job) (marks : List Bool) (d : ℕ) (a : Action) → Legal j marks d a → (e : ℕ) → e ≢ d → load j (act marks a) e ≡ load j marks e
+pub load-elsewhere : (j : Job) (marks : List Bool) (d : ℕ) (a : Action) → Legal j marks d a → (e : ℕ) → e ≢ d → load j (act marks a) e ≡ load j marks e
 unfolding load
 load-elsewhere j marks d a h e n =
     count-same _ _ (blockCount j) λ b l.
@@ -81,7 +96,7 @@ load-elsewhere j marks d a h e n =
     rw (act-elsewhere j marks d a h b (λ q. n (sym on ∙ q))))
     (λ f. and-false-left _ f ∙ sym (and-false-left _ f))
 
-load-own : (j : Job) (marks : List Bool) → blockCount j ≤ length marks → (d : ℕ) (a : Action) → Legal j marks d a
+pub load-own : (j : Job) (marks : List Bool) → blockCount j ≤ length marks → (d : ℕ) (a : Action) → Legal j marks d a
     → load j (act marks a) d + discarded a ≡ load j marks d + fetched a
 unfolding load Legal act
 load-own j marks long d idle h = refl

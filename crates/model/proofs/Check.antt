@@ -3,7 +3,7 @@ use mathlib.Core.Path.{_≡_, refl}
 use mathlib.Core.List.{List}
 use Prim.Native.Nat.{ℕ}
 use Rattle.bits.specs.Bits.{bits}
-use Rattle.bits.specs.Reading.{Answer, given, refused, Reader, got}
+use Rattle.bits.specs.Reading.{Answer, given, refused}
 use Rattle.bits.proofs.Bits.{bits-are}
 use Rattle.bits.proofs.Reading.{readAll-given, refused-given}
 use Rattle.model.specs.Job.{Job}

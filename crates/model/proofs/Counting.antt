@@ -1,6 +1,6 @@
 -- Counting the numbers below n that pass a test, and the pigeonhole. Assumes nothing.
 use mathlib.Core.Path.{_≡_, refl, sym, ap, _∙_}
-use mathlib.Core.Bool.{Bool, true, false, cond, not, _&&_}
+use mathlib.Core.Bool.{Bool, true, false, not, _&&_}
 use Prim.Native.Nat.{ℕ, zero, suc, _+_, _≤_, _<_}
 use native.Mathlib.Omega.{arith}
 use Rattle.bits.proofs.Logic.{by-test, clash}
@@ -108,3 +108,15 @@ count-none t n e b p =
     by-test (t b)
     (λ y. let d = count-drop (λ _. false) t b n p y refl (λ c l q. clash q refl) in absurd (omega (arith, d)))
     (λ f. f)
+
+-- something passes
+pub count-some : (t : ℕ → Bool) (n : ℕ) → 0 < count t n → (b : ℕ) × (b < n) × (t b ≡ true)
+unfolding count
+count-some t zero p = absurd (omega arith)
+count-some t (suc n) p = step (count-some t n)
+  where
+    step : (0 < count t n → (b : ℕ) × (b < n) × (t b ≡ true)) → (b : ℕ) × (b < suc n) × (t b ≡ true)
+    step ih =
+        by-test (t n)
+        (λ e. (n, omega arith, e))
+        (λ e. let a = count-no t n e in let w = ih (omega (arith, a)) in (w .0, (let l = w .1 in omega (arith, l)), w .2))

@@ -6,3 +6,15 @@ pub mod Buffers
 pub mod Sheets
 pub mod Check
 pub mod Longest
+pub mod Distances
+pub mod Choosing
+pub mod Missing
+pub mod Rounds
+pub mod Plans
+pub mod Effects
+pub mod Short
+pub mod Sparing
+pub mod Written
+pub mod Validity
+pub mod Bytes
+pub mod Promises

@@ -1,12 +1,12 @@
 -- Document 01, "Ticket and sheet": "The longest ticket has 2,507 bytes, the longest sheet 40,962." Assumes nothing.
 use mathlib.Core.Path.{_≡_, refl, sym, ap, _∙_}
 use mathlib.Core.List.{List, [], _∷_, _++_}
-use Prim.Native.Nat.{ℕ, zero, suc, _+_, _*_, _≤_, _<_}
+use Prim.Native.Nat.{ℕ, zero, suc, _+_, _*_, _≤_}
 use native.Mathlib.Nat.{add-comm, zero-mul, suc-mul}
 use native.Mathlib.Omega.{arith}
-use lib.ListN.{length, replicate, length-append, length-replicate}
+use lib.ListN.{length, replicate, length-append}
 use Rattle.bits.specs.Bits.{digits, bits, bytesFor, pack}
-use Rattle.bits.specs.Reading.{given, _>>=_, _>>_, bind, give, field, refuseIf, many, closing, answer, readAll}
+use Rattle.bits.specs.Reading.{given, bind, _>>=_, _>>_, give, field, refuseIf, many, closing, answer, readAll}
 use Rattle.bits.proofs.Logic.{Each}
 use Rattle.bits.proofs.Bits.{length-digits, length-bits, length-pack}
 use Rattle.bits.proofs.Reading.{readAll-given}

@@ -1,12 +1,12 @@
 -- Reading on: how many references a round consumes, and that a round of a valid schedule leads to the state that playing it gives. Assumes nothing.
-use mathlib.Core.Path.{_≡_, refl, sym, ap, ap₂, _∙_, subst}
-use mathlib.Core.Bool.{Bool, true, false, cond}
+use mathlib.Core.Path.{_≡_, sym, ap, _∙_}
+use mathlib.Core.Bool.{Bool, true, false}
 use mathlib.Core.List.{List, [], _∷_}
 use Prim.Native.Nat.{ℕ, zero, suc, _+_, _-_, _≤_, _<_}
 use native.Mathlib.Omega.{arith}
 use lib.ListN.{length, getD, drop, length-drop}
 use lib.Seq.{getD-drop}
-use Rattle.bits.proofs.Logic.{by-test, clash}
+use Rattle.bits.proofs.Logic.{by-test}
 use Rattle.model.specs.Job.{Job, refCount, refAt}
 use Rattle.model.specs.Playing.{Action, State, isResident, actAll, consumed, playRound}
 use Rattle.model.specs.Valid.{Round}

@@ -1,20 +1,20 @@
 -- A sheet that is read is the schedule written, legal and within the slots; and a legal schedule within the slots, written, is read.
 -- Assumes nothing.
-use mathlib.Core.Path.{_≡_, refl, sym, ap, ap₂, _∙_, subst}
+use mathlib.Core.Path.{_≡_, refl, sym, ap, _∙_, subst}
 use mathlib.Core.Bool.{Bool, true, false, not, _&&_, _||_}
 use mathlib.Core.List.{List, [], _∷_, _++_, append-assoc}
-use Prim.Native.Nat.{ℕ, zero, suc, _+_, _*_, _^_, _≤_, _<_}
+use Prim.Native.Nat.{ℕ, zero, suc, _≤_, _<_}
 use native.Mathlib.Omega.{arith}
 use lib.Dec.{ltb, leb, eqb}
-use lib.ListN.{length, getD}
-use borrow.Author.Tests.{ltb-true, ltb-false, lt-ltb, leb-false, lt-leb, eqb-true, eq-eqb, not-false}
+use lib.ListN.{length}
+use borrow.Author.Tests.{ltb-true, ltb-false, leb-false, eqb-true, not-false}
 use Rattle.bits.specs.Bits.{digits}
-use Rattle.bits.specs.Reading.{Reader, got, _>>=_, _>>_, give, field, refuseIf, allZero, closing}
-use Rattle.bits.proofs.Logic.{clash, and-left, and-right, or-false-left, or-false-right}
-use Rattle.bits.proofs.Bits.{Bits, field-digits, field-wrote}
+use Rattle.bits.specs.Reading.{got, field, refuseIf, allZero, closing}
+use Rattle.bits.proofs.Logic.{and-left, and-right, or-false-left, or-false-right}
+use Rattle.bits.proofs.Bits.{Bits, field-wrote}
 use Rattle.bits.proofs.Reading.{bind-got, then-got, give-got, refuse-got, closing-got}
 use Rattle.model.specs.Job.{Job, diskCount, blockCount, refCount, slotsOf, diskOf}
-use Rattle.model.specs.Playing.{Action, idle, fetch, replace, Schedule, State, isResident, load, act, actAll, playRound, play}
+use Rattle.model.specs.Playing.{Action, idle, fetch, replace, Schedule, State, isResident, load, act, playRound, play}
 use Rattle.model.specs.Sheet.{actionBits, roundBits, roundsBits, sheetBits, holds, discardReader, fetchReader, actionReader, roundReader, roundsReader, sheetReader}
 use Rattle.model.specs.Valid.{Block, Legal, LegalAll}
 

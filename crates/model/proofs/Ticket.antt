@@ -1,19 +1,17 @@
 -- What an accepted ticket says of its job, and how long it can be. Assumes nothing.
 use mathlib.Core.Path.{_≡_, refl, ap, subst}
 use mathlib.Core.Bool.{_||_}
-use mathlib.Core.List.{List, [], _∷_}
+use mathlib.Core.List.{List}
 use Prim.Native.Nat.{ℕ, zero, suc, _+_, _*_, _≤_, _<_}
 use native.Mathlib.Omega.{arith}
 use lib.Dec.{ltb, leb, eqb}
-use lib.ListN.{length, getD, length-append, replicate}
-use mathlib.Core.List.{_++_}
+use lib.ListN.{length}
 use borrow.Author.Tests.{ltb-false, leb-false, eqb-false}
-use Rattle.bits.specs.Bits.{bits, digits, pack}
-use Rattle.bits.specs.Reading.{Answer, given, Reader, got, _>>=_, _>>_, bind, give, field, refuseIf, many, closing, answer, readAll}
+use Rattle.bits.specs.Reading.{got, _>>=_, _>>_, give, field, refuseIf, many, closing}
 use Rattle.bits.proofs.Logic.{or-false-left, or-false-right, Each}
-use Rattle.bits.proofs.Reading.{bind-got, then-got, give-got, refuse-got, field-length, closing-got, readAll-given, Takes, many-takes}
+use Rattle.bits.proofs.Reading.{bind-got, then-got, give-got, refuse-got, field-length, closing-got, Takes, many-takes}
 use Rattle.model.specs.Job.{Job, diskCount, blockCount, refCount}
-use Rattle.model.specs.Ticket.{slotsField, diskField, refField, ticketReader, ticketOf}
+use Rattle.model.specs.Ticket.{slotsField, diskField, refField, ticketReader}
 
 -- The values that document 01's table allows.
 pub record Sound (j : Job) : Type 0 where

@@ -1,9 +1,9 @@
 -- What planning and checking give: document 01, "The two plans", its last three paragraphs, and "Numbers of a refused call". Assumes nothing.
-use mathlib.Core.Bool.{Bool, true, false, cond}
+use mathlib.Core.Bool.{cond}
 use mathlib.Core.List.{List, [], _∷_, _++_}
 use Prim.Native.Nat.{ℕ}
 use lib.Dec.{ltb, eqb}
-use lib.ListN.{length}
+use lib.ListN.{length, getD}
 use Rattle.bits.specs.Bits.{be16, over, laid}
 use Rattle.bits.specs.Reading.{Answer, given, refused}
 use Rattle.model.specs.Job.{Job}
@@ -21,6 +21,19 @@ pub record Counts : Type 0 where
 unfoldable pub countsOf : Schedule → Counts
 unfolding rounds fetches each
 countsOf schedule = record { rounds = rounds schedule; fetches = each (fetches schedule) 0 8 }
+
+-- the fetches of disk d, 0 for a disk that is not among the eight
+abbrev pub fetchesOn : Counts → ℕ → ℕ
+fetchesOn c d = getD (c .fetches) d 0
+
+-- "for both plans the rounds and the fetches per disk": they depend on the job alone
+unfoldable pub shortCounts : Job → Counts
+unfolding countsOf scheduleOf short
+shortCounts j = countsOf (scheduleOf short j)
+
+unfoldable pub sparingCounts : Job → Counts
+unfolding countsOf scheduleOf sparing
+sparingCounts j = countsOf (scheduleOf sparing j)
 
 -- "the mark (short or sparing)"
 pub data Mark : Type 0 where
@@ -56,6 +69,13 @@ plannedOf a b = record {
   shortSheet = sheetOf a;
   sparingSheet = sheetOf b;
 }
+
+-- the sheet that is handed back, and its counts
+abbrev pub handed : Planned → List ℕ
+handed p = chosen (p .mark) (p .shortSheet) (p .sparingSheet)
+
+abbrev pub handedCounts : Planned → Counts
+handedCounts p = chosen (p .mark) (p .short) (p .sparing)
 
 -- "17. In planning, the short sheet has more bytes than its lent buffer. 18. In planning, the sparing sheet has more bytes than its lent buffer."
 unfoldable pub withRooms : ℕ → ℕ → Planned → Answer Planned

@@ -4,7 +4,7 @@ use mathlib.Core.List.{List, [], _∷_, map}
 use Prim.Native.Nat.{ℕ, zero, suc}
 use lib.Dec.{ltb}
 use Rattle.model.specs.Job.{Job, diskCount, refCount}
-use Rattle.model.specs.Playing.{Action, Schedule, State, start, playRound}
+use Rattle.model.specs.Playing.{Schedule, State, start, playRound}
 use Rattle.model.specs.Rules.{Choice, action, Rule}
 
 -- f i, f (i + 1), .., k of them

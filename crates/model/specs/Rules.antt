@@ -1,6 +1,6 @@
 -- Document 01, "The two plans": distance, U, min-block, and the short and the sparing rule, each as one action with the reason for it.
 -- A rule looks only at the state at the start of a round. Assumes nothing.
-use mathlib.Core.Bool.{Bool, true, false, cond, not, _&&_}
+use mathlib.Core.Bool.{Bool, cond, not, _&&_}
 use mathlib.Core.List.{List, [], _∷_}
 use mathlib.Core.Option.{Option, none, some}
 use Prim.Native.Nat.{ℕ, zero, suc, _+_}

@@ -1,6 +1,6 @@
 -- Reading a ticket: document 01, "Ticket and sheet", its table of ticket fields, with the numbers 1 to 8 of "Numbers of a refused call",
 -- each tested as soon as the field that it speaks of is read. Assumes nothing.
-use mathlib.Core.Bool.{Bool, _||_}
+use mathlib.Core.Bool.{_||_}
 use mathlib.Core.List.{List}
 use Prim.Native.Nat.{ℕ}
 use lib.Dec.{ltb, leb, eqb}

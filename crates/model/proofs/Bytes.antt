@@ -1,0 +1,305 @@
+-- The theorems about schedules, carried to the bytes of tickets and sheets. Assumes nothing.
+use mathlib.Core.Path.{_≡_, refl, sym, ap, _∙_, subst}
+use mathlib.Core.Logic.{_↔_}
+use mathlib.Core.List.{List, [], _∷_, _++_, map, append-assoc}
+use Prim.Native.Nat.{ℕ, zero, suc, _+_, _≤_, _<_}
+use native.Mathlib.Omega.{arith}
+use lib.Dec.{eqb, ltb, lit<}
+use lib.ListN.{length, getD, take, List·getD-eq-default, length-map}
+use borrow.Author.Tests.{eqb-true, eq-eqb, ltb-true, ltb-false}
+use Rattle.bits.specs.Bits.{digits}
+use Rattle.bits.specs.Reading.{Answer, given, refused}
+use Rattle.bits.proofs.Logic.{by-test, Each}
+use Rattle.bits.proofs.Bits.{Bits, bits-pack, digits-are}
+use Rattle.bits.proofs.Reading.{refused-given}
+use Rattle.model.specs.Job.{Job, diskCount, refCount}
+use Rattle.model.specs.Ticket.{ticketOf}
+use Rattle.model.specs.Playing.{Action, idle, fetch, replace, Schedule, State, start, playRound, play, rounds, fetched, total, fetches}
+use Rattle.model.specs.Rules.{action, Rule, short, sparing}
+use Rattle.model.specs.Plans.{each, choices, planFrom, planOf, scheduleOf}
+use Rattle.model.specs.Sheet.{actionBits, roundBits, roundsBits, sheetBits, sheetOf}
+use Rattle.model.specs.Valid.{ValidFrom, ValidSheet}
+use Rattle.model.specs.Calls.{Counts, countsOf, fetchesOn, shortCounts, sparingCounts, Mark, isShort, isSparing, Planned, markOf, chosen, handed, handedCounts, plannedOf, withRooms, plannedFor, planning, passOf, checkFor, checking}
+use Rattle.model.proofs.Ticket.{Sound}
+use Rattle.model.proofs.Choosing.{Lawful, short-lawful, sparing-lawful}
+use Rattle.model.proofs.Rounds.{Ready, ready-start, ready-after}
+use Rattle.model.proofs.Plans.{length-each, actionsOf, plan-round, plan-consumes, plan-valid, plan-few}
+use Rattle.model.proofs.Short.{ahead-self, short-unbeaten}
+use Rattle.model.proofs.Sparing.{sparing-unbeaten}
+use Rattle.model.proofs.Check.{passed, ticket-sound}
+use Rattle.model.proofs.Validity.{read-valid, valid-read}
+use Rattle.model.proofs.Longest.{passed-length}
+
+-- a pass, and the valid sheets
+
+-- an accepted ticket says one job
+one-job : (t : List ℕ) {i j : Job} → ticketOf t ≡ given i → ticketOf t ≡ given j → i ≡ j
+one-job t p q = cc
+
+pub passes-valid : (t s : List ℕ) (c : Counts) → checking t s ≡ given c
+    → (j : Job) × (schedule : Schedule) × (ticketOf t ≡ given j) × ValidSheet j s schedule × (countsOf schedule ≡ c)
+passes-valid t s c e =
+    let p = passed t s c e in
+    (p .job, p .schedule, p .ticket, read-valid (p .job) (p .sound) s (p .schedule) (p .read), p .counts)
+
+pub valid-passes : (t s : List ℕ) (j : Job) (schedule : Schedule) → ticketOf t ≡ given j → ValidSheet j s schedule → checking t s ≡ given (countsOf schedule)
+unfolding checking checkFor passOf
+valid-passes t s j schedule e v = ap (checkFor s) e ∙ ap passOf (valid-read j (ticket-sound t j e) s schedule v)
+
+-- the eight counts
+
+getD-each : {A : Type 0} (f : ℕ → A) (i n k : ℕ) (x : A) → k < n → getD (each f i n) k x ≡ f (i + k)
+unfolding each
+getD-each f i zero k x l = absurd (omega arith)
+getD-each f i (suc n) zero x l = ap f (let e : i ≡ i + 0 = omega arith in e)
+getD-each f i (suc n) (suc k) x l = getD-each f (suc i) n k x (omega arith) ∙ ap f (let e : suc i + k ≡ i + suc k = omega arith in e)
+
+fetches-on : (schedule : Schedule) (d : ℕ) → d < 8 → fetchesOn (countsOf schedule) d ≡ fetches schedule d
+unfolding countsOf
+fetches-on schedule d l = getD-each (fetches schedule) 0 8 d 0 l ∙ ap (fetches schedule) (let e : 0 + d ≡ d = omega arith in e)
+
+fetches-beyond : (schedule : Schedule) (d : ℕ) → 8 ≤ d → fetchesOn (countsOf schedule) d ≡ 0
+unfolding countsOf
+fetches-beyond schedule d l = List·getD-eq-default (each (fetches schedule) 0 8) 0 {n = d} (let e = length-each (fetches schedule) 0 8 in omega (arith, e))
+
+fetches-none : (schedule : Schedule) (d : ℕ) → total fetched d schedule ≡ 0 → fetches schedule d ≡ 0
+unfolding fetches
+fetches-none schedule d e = e
+
+-- a plan fetches nothing on a disk that the job has not
+plan-elsewhere : (rule : Rule) (j : Job) (d most : ℕ) (s : State) → diskCount j ≤ d → total fetched d (map (map action) (planFrom rule j most s)) ≡ 0
+unfolding planFrom total choices
+plan-elsewhere rule j d zero s l = refl
+plan-elsewhere rule j d (suc most) s l =
+    let actions = map action (choices rule j s) in
+    let ih = plan-elsewhere rule j d most (playRound j s actions) l in
+    let long = length-map (choices rule j s) action ∙ length-each (rule j s) 0 (diskCount j) in
+    let none = ap fetched (List·getD-eq-default actions idle {n = d} (omega (arith, long))) in
+    by-test (ltb (s .next) (refCount j))
+    (λ e. rw (e, planFrom) (omega (arith, ih, none)))
+    (λ e. rw (e, planFrom) refl)
+
+-- Demand 3.
+
+module _ (j : Job) (sound : Sound j) (schedule : Schedule) (v : ValidFrom j (start j) schedule) where
+  ready : Ready j (start j)
+  ready = ready-start j (sound .fewBlocks)
+
+  in-rounds : rounds (scheduleOf short j) ≤ rounds schedule
+  unfolding rounds scheduleOf planOf
+  in-rounds =
+      let l = length-map (planFrom short j (refCount j) (start j)) (map action) in
+      let u = short-unbeaten j sound (refCount j) (start j) (start j) schedule ready (ahead-self j (start j)) v in
+      omega (arith, l, u)
+
+  in-fetches : (d : ℕ) → fetches (scheduleOf sparing j) d ≤ fetches schedule d
+  unfolding scheduleOf planOf
+  in-fetches d =
+      by-test (ltb d (diskCount j))
+      (λ e. sparing-unbeaten j sound (refCount j) (start j) schedule ready v d (ltb-true _ _ e))
+      (λ e. let z = none (ltb-false d (diskCount j) e) in omega (arith, z))
+    where
+      none : diskCount j ≤ d → fetches (map (map action) (planFrom sparing j (refCount j) (start j))) d ≡ 0
+      none l = fetches-none (map (map action) (planFrom sparing j (refCount j) (start j))) d (plan-elsewhere sparing j d (refCount j) (start j) l)
+
+  counts-unbeaten : (shortCounts j .rounds ≤ countsOf schedule .rounds) × ((d : ℕ) → fetchesOn (sparingCounts j) d ≤ fetchesOn (countsOf schedule) d)
+  unfolding shortCounts sparingCounts countsOf
+  counts-unbeaten = (
+    in-rounds,
+    λ d.
+        by-test (ltb d 8)
+        (λ e. let l = ltb-true d 8 e in
+        let a = fetches-on (scheduleOf sparing j) d l in
+        let b = fetches-on schedule d l in
+        let f = in-fetches d in
+        omega (arith, a, b, f))
+        (λ e. let z = fetches-beyond (scheduleOf sparing j) d (ltb-false d 8 e) in omega (arith, z)),
+  )
+
+pub unbeaten : (t s : List ℕ) (j : Job) (c : Counts) → ticketOf t ≡ given j → checking t s ≡ given c
+    → (shortCounts j .rounds ≤ c .rounds) × ((d : ℕ) → fetchesOn (sparingCounts j) d ≤ fetchesOn c d)
+unbeaten t s j c e pass =
+    let v = passes-valid t s c pass in
+    let sheet = subst (λ (x : Job). ValidSheet x s (v .1)) (one-job t (v .2) e) (v .3) in
+    subst (λ (x : Counts). (shortCounts j .rounds ≤ x .rounds) × ((d : ℕ) → fetchesOn (sparingCounts j) d ≤ fetchesOn x d)) (v .4)
+    (counts-unbeaten j (ticket-sound t j e) (v .1) (sheet .valid))
+
+-- Demand 2. The bits of a sheet are bits, so its bytes hold them and the closing zeros.
+
+action-bits : (a : Action) (l : List ℕ) → Bits l → Bits (actionBits a ++ l)
+unfolding actionBits Bits Each
+action-bits idle l h = (lit< tt, h)
+action-bits (fetch x) l h = (lit< tt, subst Bits (sym (append-assoc (digits 9 x) (0 ∷ []) l)) (digits-are 9 x (0 ∷ l) (lit< tt, h)))
+action-bits (replace x z) l h = (lit< tt, subst Bits (sym (append-assoc (digits 9 x) (1 ∷ digits 9 z) l)) (digits-are 9 x (1 ∷ (digits 9 z ++ l)) (lit< tt, digits-are 9 z l h)))
+
+round-bits : (actions : List Action) (l : List ℕ) → Bits l → Bits (roundBits actions ++ l)
+unfolding roundBits
+round-bits [] l h = h
+round-bits (a ∷ more) l h = rw (append-assoc (actionBits a) (roundBits more) l) (action-bits a (roundBits more ++ l) (round-bits more l h))
+
+rounds-bits : (schedule : Schedule) → Bits (roundsBits schedule)
+unfolding roundsBits Bits Each
+rounds-bits [] = tt
+rounds-bits (actions ∷ more) = round-bits actions (roundsBits more) (rounds-bits more)
+
+pub sheet-bits : (schedule : Schedule) → Bits (sheetBits schedule)
+unfolding sheetBits
+sheet-bits schedule = digits-are 12 (length schedule) (roundsBits schedule) (rounds-bits schedule)
+
+pub valid-sheet : (j : Job) (schedule : Schedule) → length schedule ≤ 2048 → ValidFrom j (start j) schedule → ValidSheet j (sheetOf schedule) schedule
+unfolding sheetOf
+valid-sheet j schedule few v =
+    let p = bits-pack (sheetBits schedule) (sheet-bits schedule) in
+    record { fewRounds = few; valid = v; closingBits = p .0; fewClosing = p .1; written = p .2 }
+
+module _ (rule : Rule) (lawful : Lawful rule) (t : List ℕ) (j : Job) (e : ticketOf t ≡ given j) where
+  sound : Sound j
+  sound = ticket-sound t j e
+
+  pub schedule-valid : ValidFrom j (start j) (scheduleOf rule j)
+  unfolding scheduleOf planOf start
+  schedule-valid = plan-valid rule lawful j sound (refCount j) (start j) (ready-start j (sound .fewBlocks)) (omega arith)
+
+  -- "neither takes more than N rounds"
+  pub schedule-few : rounds (scheduleOf rule j) ≤ refCount j
+  unfolding scheduleOf planOf rounds
+  schedule-few =
+      let l = length-map (planFrom rule j (refCount j) (start j)) (map action) in
+      let f = plan-few rule lawful j sound (refCount j) (start j) (ready-start j (sound .fewBlocks)) in
+      omega (arith, l, f)
+
+  pub schedule-most : rounds (scheduleOf rule j) ≤ 2048
+  schedule-most = let f = schedule-few in let n = sound .fewRefs in omega (arith, f, n)
+
+  pub schedule-passes : checking t (sheetOf (scheduleOf rule j)) ≡ given (countsOf (scheduleOf rule j))
+  unfolding rounds
+  schedule-passes = valid-passes t (sheetOf (scheduleOf rule j)) j (scheduleOf rule j) e (valid-sheet j (scheduleOf rule j) schedule-most schedule-valid)
+
+  -- "every plan's sheet .. fits the longest sheet's room"
+  pub schedule-fits : length (sheetOf (scheduleOf rule j)) ≤ 40962
+  schedule-fits = passed-length t (sheetOf (scheduleOf rule j)) _ schedule-passes
+
+-- "In either plan every round consumes at least one reference."
+
+pub consumes-from : (rule : Rule) → Lawful rule → (j : Job) → Sound j → (most : ℕ) (s : State) → Ready j s → (k : ℕ)
+    → k < length (map (map action) (planFrom rule j most s))
+    → play j s (take k (map (map action) (planFrom rule j most s))) .next < play j s (take (suc k) (map (map action) (planFrom rule j most s))) .next
+unfolding planFrom play actionsOf
+consumes-from rule lawful j sound zero s ready k l = absurd (omega arith)
+consumes-from rule lawful j sound (suc most) s ready k l =
+    let ih = consumes-from rule lawful j sound most t (ready-after j s (actionsOf rule j s) t ready (plan-round rule lawful j sound s ready)) in
+    by-test (ltb (s .next) (refCount j))
+    (λ e. rw (e, planFrom) (step ih k (rw (e, planFrom) at l) (ltb-true _ _ e)))
+    (λ e. let m = rw (e, planFrom) at l in absurd (omega (arith, m)))
+  where
+    t : State
+    t = playRound j s (actionsOf rule j s)
+
+    rest : Schedule
+    rest = map (map action) (planFrom rule j most t)
+
+    step : ((k : ℕ) → k < length rest → play j t (take k rest) .next < play j t (take (suc k) rest) .next) → (k : ℕ) → k < suc (length rest) → s .next < refCount j
+        → play j s (take k (actionsOf rule j s ∷ rest)) .next < play j s (take (suc k) (actionsOf rule j s ∷ rest)) .next
+    step ih zero l due = plan-consumes rule lawful j sound s ready due
+    step ih (suc k) l due = ih k (omega arith)
+
+schedule-consumes : (rule : Rule) → Lawful rule → (t : List ℕ) (j : Job) → ticketOf t ≡ given j → (k : ℕ) → k < rounds (scheduleOf rule j)
+    → play j (start j) (take k (scheduleOf rule j)) .next < play j (start j) (take (suc k) (scheduleOf rule j)) .next
+unfolding scheduleOf planOf rounds
+schedule-consumes rule lawful t j e =
+    let sound = ticket-sound t j e in
+    consumes-from rule lawful j sound (refCount j) (start j) (ready-start j (sound .fewBlocks))
+
+-- The sheet that planning hands back.
+
+-- what a planning call that is not refused gives
+pub planned : (t : List ℕ) (a b : ℕ) (p : Planned) → planning t a b ≡ given p → (j : Job) × (ticketOf t ≡ given j) × (plannedOf (scheduleOf short j) (scheduleOf sparing j) ≡ p)
+unfolding planning plannedFor withRooms
+planned t a b p e = go (ticketOf t) refl e
+  where
+    fits : (q : Planned) → withRooms a b q ≡ given p → q ≡ p
+    fits q h =
+        by-test (ltb a (length (q .shortSheet)))
+        (λ y. refused-given (rw y at h))
+        (λ n. let k = rw n at h in
+        by-test (ltb b (length (q .sparingSheet)))
+        (λ y. refused-given (rw y at k))
+        (λ m. let f : given q ≡ given p = rw m at k in cc))
+
+    go : (x : Answer Job) → ticketOf t ≡ x → plannedFor a b x ≡ given p → (j : Job) × (ticketOf t ≡ given j) × (plannedOf (scheduleOf short j) (scheduleOf sparing j) ≡ p)
+    go (given j) q h = (j, q, fits _ h)
+    go (refused n) q h = refused-given h
+
+-- the mark is sparing exactly when both take equally many rounds
+mark-sparing : (a b : Schedule) → (markOf a b ≡ isSparing) ↔ (rounds a ≡ rounds b)
+unfolding markOf
+mark-sparing a b = (
+  λ e. by-test (eqb (rounds a) (rounds b)) (λ y. eqb-true _ _ y) (λ n. absurd (short-sparing (rw n at e))),
+  λ e. rw (eq-eqb (rounds a) (rounds b) e),
+)
+  where
+    short-sparing : isShort ≡ isSparing → ⊥
+    short-sparing e = let z : _≡_ {A = ℕ} 0 1 = cc in omega arith
+
+-- what is said of the sheet handed back
+abbrev HandedBack : List ℕ → Planned → Type 0
+HandedBack t p =
+    ((p .mark ≡ isSparing) ↔ (p .short .rounds ≡ p .sparing .rounds))
+    × (length (handed p) ≡ p .part)
+    × (checking t (handed p) ≡ given (handedCounts p))
+    × ((s : List ℕ) (c : Counts) → checking t s ≡ given c → handedCounts p .rounds ≤ c .rounds)
+
+-- either plan's sheet, where the mark says that it is as short as the short plan's
+handed-of : (t : List ℕ) (j : Job) → ticketOf t ≡ given j → (m : Mark) → markOf (scheduleOf short j) (scheduleOf sparing j) ≡ m
+    → (checking t (chosen m (sheetOf (scheduleOf short j)) (sheetOf (scheduleOf sparing j))) ≡ given (chosen m (shortCounts j) (sparingCounts j)))
+    × ((s : List ℕ) (c : Counts) → checking t s ≡ given c → chosen m (shortCounts j) (sparingCounts j) .rounds ≤ c .rounds)
+unfolding shortCounts sparingCounts
+handed-of t j e isShort q = (schedule-passes short short-lawful t j e, λ s c h. unbeaten t s j c e h .0)
+handed-of t j e isSparing q = (
+  schedule-passes sparing sparing-lawful t j e,
+  λ s c h. (let k = unbeaten t s j c e h .0 in let same = mark-sparing (scheduleOf short j) (scheduleOf sparing j) .0 q in omega (arith, k, same)),
+)
+
+part-of : (a b : Schedule) (m : Mark) → length (chosen m (sheetOf a) (sheetOf b)) ≡ chosen m (length (sheetOf a)) (length (sheetOf b))
+part-of a b isShort = refl
+part-of a b isSparing = refl
+
+pub handed-back : (t : List ℕ) (a b : ℕ) (p : Planned) → planning t a b ≡ given p → HandedBack t p
+unfolding plannedOf countsOf shortCounts sparingCounts
+handed-back t a b p e =
+    let w = planned t a b p e in
+    let j = w .0 in
+    let h = handed-of t j (w .1) (markOf (scheduleOf short j) (scheduleOf sparing j)) refl in
+    subst (HandedBack t) (w .2) (
+      mark-sparing (scheduleOf short j) (scheduleOf sparing j),
+      part-of (scheduleOf short j) (scheduleOf sparing j) (markOf (scheduleOf short j) (scheduleOf sparing j)),
+      h .0,
+      h .1,
+    )
+
+-- its numbers are the plans' own
+pub planned-counts : (t : List ℕ) (j : Job) (a b : ℕ) (p : Planned) → ticketOf t ≡ given j → planning t a b ≡ given p
+    → (p .short ≡ shortCounts j) × (p .sparing ≡ sparingCounts j) × (p .shortSheet ≡ sheetOf (scheduleOf short j)) × (p .sparingSheet ≡ sheetOf (scheduleOf sparing j))
+unfolding plannedOf shortCounts sparingCounts
+planned-counts t j a b p q e =
+    let w = planned t a b p e in
+    let same = one-job t (w .1) q in
+    subst (λ (x : Planned). (x .short ≡ shortCounts j) × (x .sparing ≡ sparingCounts j) × (x .shortSheet ≡ sheetOf (scheduleOf short j)) × (x .sparingSheet ≡ sheetOf (scheduleOf sparing j)))
+    (w .2) (
+      ap shortCounts same,
+      ap sparingCounts same,
+      ap (λ (i : Job). sheetOf (scheduleOf short i)) same,
+      ap (λ (i : Job). sheetOf (scheduleOf sparing i)) same,
+    )
+
+-- the remaining promises, as they are stated
+
+pub rounds-few : (rule : Rule) → Lawful rule → (t : List ℕ) (j : Job) → ticketOf t ≡ given j
+    → ((k : ℕ) → k < rounds (scheduleOf rule j) → play j (start j) (take k (scheduleOf rule j)) .next < play j (start j) (take (suc k) (scheduleOf rule j)) .next)
+    × (rounds (scheduleOf rule j) ≤ refCount j) × (rounds (scheduleOf rule j) ≤ 2048) × (length (sheetOf (scheduleOf rule j)) ≤ 40962)
+rounds-few rule lawful t j e =
+    (schedule-consumes rule lawful t j e, schedule-few rule lawful t j e, schedule-most rule lawful t j e, schedule-fits rule lawful t j e)
+
+pub passes-exactly : (t s : List ℕ) (c : Counts) → (checking t s ≡ given c)
+    ↔ ((j : Job) × (schedule : Schedule) × (ticketOf t ≡ given j) × ValidSheet j s schedule × (countsOf schedule ≡ c))
+passes-exactly t s c = (passes-valid t s c, λ w. valid-passes t s (w .0) (w .1) (w .2) (w .3) ∙ ap given (w .4))
