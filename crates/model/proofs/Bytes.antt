@@ -12,7 +12,7 @@ use Rattle.bits.specs.Reading.{Answer, given, refused}
 use Rattle.bits.proofs.Logic.{by-test, Each}
 use Rattle.bits.proofs.Bits.{Bits, bits-pack, digits-are}
 use Rattle.bits.proofs.Reading.{refused-given}
-use Rattle.model.specs.Job.{Job, diskCount, refCount}
+use Rattle.model.specs.Job.{Sound, Job, diskCount, refCount}
 use Rattle.model.specs.Ticket.{ticketOf}
 use Rattle.model.specs.Playing.{Action, idle, fetch, replace, Schedule, State, start, playRound, play, rounds, fetched, total, fetches}
 use Rattle.model.specs.Rules.{action, Rule, short, sparing}
@@ -20,7 +20,6 @@ use Rattle.model.specs.Plans.{each, choices, planFrom, planOf, scheduleO
 use Rattle.model.specs.Sheet.{actionBits, roundBits, roundsBits, sheetBits, sheetOf}
 use Rattle.model.specs.Valid.{ValidFrom, ValidSheet}
 use Rattle.model.specs.Calls.{Counts, countsOf, fetchesOn, shortCounts, sparingCounts, Mark, isShort, isSparing, Planned, markOf, chosen, handed, handedCounts, plannedOf, withRooms, plannedFor, planning, passOf, checkFor, checking}
-use Rattle.model.proofs.Ticket.{Sound}
 use Rattle.model.proofs.Choosing.{Lawful, short-lawful, sparing-lawful}
 use Rattle.model.proofs.Rounds.{Ready, ready-start, ready-after}
 use Rattle.model.proofs.Plans.{length-each, actionsOf, plan-round, plan-consumes, plan-valid, plan-few}

@@ -6,12 +6,12 @@ use Rattle.bits.specs.Bits.{bits}
 use Rattle.bits.specs.Reading.{Answer, given, refused}
 use Rattle.bits.proofs.Bits.{bits-are}
 use Rattle.bits.proofs.Reading.{readAll-given, refused-given}
-use Rattle.model.specs.Job.{Job}
+use Rattle.model.specs.Job.{Sound, Job}
 use Rattle.model.specs.Ticket.{ticketReader, ticketOf}
 use Rattle.model.specs.Playing.{Schedule, start}
 use Rattle.model.specs.Sheet.{sheetReader, scheduleRead}
 use Rattle.model.specs.Calls.{Counts, countsOf, passOf, checkFor, checking}
-use Rattle.model.proofs.Ticket.{Sound, reader-sound}
+use Rattle.model.proofs.Ticket.{reader-sound}
 use Rattle.model.proofs.Sheets.{SheetRead, sheet-read}
 
 -- an accepted ticket's job is sound

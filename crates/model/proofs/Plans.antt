@@ -9,28 +9,16 @@ use native.Mathlib.Omega.{arith}
 use lib.Dec.{ltb}
 use lib.ListN.{length, getD}
 use borrow.Author.Tests.{ltb-true, ltb-false}
-use Rattle.bits.proofs.Logic.{by-test, clash, each-at}
-use Rattle.model.specs.Job.{Job, diskCount, blockCount, refCount, slotsOf, diskOf, refAt}
+use Rattle.bits.proofs.Logic.{by-test, clash}
+use Rattle.model.specs.Job.{Sound, Job, diskCount, blockCount, refCount, slotsOf, diskOf, refAt}
 use Rattle.model.specs.Playing.{Action, idle, fetch, replace, State, isResident, load, act, playRound, fetched, discarded}
 use Rattle.model.specs.Rules.{distance, distanceNow, Choice, action, Rule}
 use Rattle.model.specs.Plans.{each, choices, planFrom}
 use Rattle.model.specs.Valid.{Legal, LegalAll, Round, ValidFrom}
-use Rattle.model.proofs.Ticket.{Sound}
 use Rattle.model.proofs.Buffers.{entered, replaced-in, fetch-kept, replace-kept, act-elsewhere, load-round}
 use Rattle.model.proofs.Distances.{distance-from, distance-one, distance-here}
 use Rattle.model.proofs.Choosing.{nothing, into, sooner, waiting, over, RuleView, Lawful}
 use Rattle.model.proofs.Rounds.{Ready, own-action, round-of, ready-after}
-
--- what a sound job says of one disk, block or reference
-
-pub slots-some : (j : Job) → Sound j → (d : ℕ) → d < diskCount j → 1 ≤ slotsOf j d
-slots-some j h d l = each-at (λ (s : ℕ). (1 ≤ s) × (s ≤ 64)) (j .slots) (h .slotted) d 0 l .0
-
-pub disk-within : (j : Job) → Sound j → (b : ℕ) → b < blockCount j → diskOf j b < diskCount j
-disk-within j h b l = each-at (λ (k : ℕ). k < diskCount j) (j .disks) (h .placed) b 0 l
-
-pub ref-within : (j : Job) → Sound j → (i : ℕ) → i < refCount j → refAt j i < blockCount j
-ref-within j h i l = each-at (λ (r : ℕ). r < blockCount j) (j .refs) (h .named) i 0 l
 
 -- the list f i, f (i + 1), ..
 
@@ -149,7 +137,7 @@ actions-at rule j s d l = action-at (rule j s) 0 (diskCount j) d l ∙ ap (λ (m
 
 module _ (rule : Rule) (lawful : Lawful rule) (j : Job) (sound : Sound j) where
   view : (s : State) (d : ℕ) → d < diskCount j → RuleView j s d (rule j s d)
-  view s d l = lawful j s d (slots-some j sound d l)
+  view s d l = lawful j s d (sound .someSlot d l)
 
   pub plan-round : (s : State) → Ready j s → Round j s (actionsOf rule j s) (playRound j s (actionsOf rule j s))
   unfolding actionsOf choices
@@ -169,9 +157,9 @@ module _ (rule : Rule) (lawful : Lawful rule) (j : Job) (sound : Sound j) where
       let r = plan-round s ready in
       let t = playRound j s (actionsOf rule j s) in
       let b = refAt j (s .next) in
-      let known = ref-within j sound (s .next) due in
+      let known = sound .toBlocks (s .next) due in
       let d = diskOf j b in
-      let l = disk-within j sound b known in
+      let l = sound .onDisks b known in
       let held : isResident (t .resident) b ≡ true =
       ap (λ (m : List Bool). isResident m b) (r .played) ∙ own-action j (s .resident) 0 (actionsOf rule j s) (r .legal) b d (omega arith)
       ∙ ap (λ (a : Action). isResident (act (s .resident) a) b) (actions-at rule j s d l)

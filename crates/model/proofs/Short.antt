@@ -9,18 +9,17 @@ use lib.Dec.{ltb, leb}
 use lib.ListN.{length, getD}
 use borrow.Author.Tests.{ltb-true, leb-true, leb-false}
 use Rattle.bits.proofs.Logic.{by-test, clash}
-use Rattle.model.specs.Job.{Job, diskCount, refCount, slotsOf, diskOf, refAt}
+use Rattle.model.specs.Job.{Sound, Job, diskCount, refCount, slotsOf, diskOf, refAt}
 use Rattle.model.specs.Playing.{Action, idle, fetch, replace, Schedule, State, act, playRound, fetched}
 use Rattle.model.specs.Rules.{distanceNow, Choice, action, short}
 use Rattle.model.specs.Plans.{planFrom}
 use Rattle.model.specs.Valid.{Round, ValidFrom}
-use Rattle.model.proofs.Ticket.{Sound}
 use Rattle.model.proofs.Distances.{distance-before}
 use Rattle.model.proofs.Choosing.{nothing, into, sooner, waiting, over, ShortView, short-view, short-lawful}
 use Rattle.model.proofs.Missing.{want, miss, miss-zero, miss-none, pigeonhole, pigeonhole-full, want-mono}
 use Rattle.model.proofs.Effects.{none-before, into-clear, into-gain, over-clear, over-gain, over-tight}
 use Rattle.model.proofs.Rounds.{Ready, ready-after, read-ahead, miss-round, miss-entered, miss-read}
-use Rattle.model.proofs.Plans.{slots-some, disk-within, ref-within, actionsOf, actions-at, plan-round}
+use Rattle.model.proofs.Plans.{actionsOf, actions-at, plan-round}
 
 -- What the plan's action does to what is missed up to q.
 data Effect (j : Job) (d p q : ℕ) (marks after : List Bool) : Type 0 where
@@ -86,7 +85,7 @@ module _ (j : Job) (sound : Sound j) (s t : State) (ready : Ready j s) (ahead : 
       let hole = pigeonhole j d (t .next) q (t′ .resident) in
       let slots = r .a2 d l in
       let more = want-mono j d (t .next) (s .next) q (ahead .read) (ready .within) in
-      let m = made-up (effect j s d q ready b (short j s d) (short-view j s d (slots-some j sound d l)))
+      let m = made-up (effect j s d q ready b (short j s d) (short-view j s d (sound .someSlot d l)))
       (miss j d (t .next) q (t .resident)) (miss j d (t .next) q (t′ .resident)) (ahead .fewer d q l a b) (omega (arith, one, few)) (omega (arith, hole, slots, more)) in
       omega (arith, m, marks-eq, act-eq)
 
@@ -100,9 +99,9 @@ module _ (j : Job) (sound : Sound j) (s t : State) (ready : Ready j s) (ahead : 
       let w = r .within in
       let i = s′ .next in
       let b = refAt j i in
-      let known = ref-within j sound i (omega (arith, l, w)) in
+      let known = sound .toBlocks i (omega (arith, l, w)) in
       let d = diskOf j b in
-      let dl = disk-within j sound b known in
+      let dl = sound .onDisks b known in
       let other : miss j d (t .next) (t′ .next) (t′ .resident) ≡ 0 =
       miss-zero j d (t .next) (t′ .next) (t′ .resident) (λ c k on out. read-ahead j t actions t′ r c out) in
       let mine = acted d (t′ .next) dl (omega (arith, o, l)) w in

@@ -10,18 +10,17 @@ use lib.Dec.{ltb, leb}
 use lib.ListN.{getD}
 use borrow.Author.Tests.{leb-true, leb-false, le-leb, lt-leb}
 use Rattle.bits.proofs.Logic.{by-test}
-use Rattle.model.specs.Job.{Job, diskCount, blockCount, refCount, slotsOf, diskOf}
+use Rattle.model.specs.Job.{Sound, Job, diskCount, blockCount, refCount, slotsOf, diskOf}
 use Rattle.model.specs.Playing.{Action, idle, fetch, replace, Schedule, State, isResident, load, act, playRound, fetched, total, fetches}
 use Rattle.model.specs.Rules.{distance, distanceNow, Choice, action, sparing}
 use Rattle.model.specs.Plans.{planFrom}
 use Rattle.model.specs.Valid.{Round, ValidFrom}
-use Rattle.model.proofs.Ticket.{Sound}
 use Rattle.model.proofs.Distances.{distance-from, distance-same}
 use Rattle.model.proofs.Choosing.{Nearest, Last, nothing, into, sooner, waiting, over, SparingView, sparing-view, sparing-lawful}
 use Rattle.model.proofs.Missing.{want, miss, miss-zero, miss-some, pigeonhole, pigeonhole-full, want-mono, miss-shift}
 use Rattle.model.proofs.Effects.{into-clear, into-gain, over-clear, over-gain, over-tight}
 use Rattle.model.proofs.Rounds.{Ready, ready-after, miss-round, miss-entered, miss-read}
-use Rattle.model.proofs.Plans.{slots-some, actionsOf, actions-at, plan-round}
+use Rattle.model.proofs.Plans.{actionsOf, actions-at, plan-round}
 
 module _ (j : Job) (d : ℕ) where
   -- The fetches on disk d up to and with the first round whose reading ends at q or later; none where the schedule starts there.
@@ -163,7 +162,7 @@ plan-spares j sound d known F (suc most) s ready between f h =
     let t = playRound j s actions in
     let r = plan-round sparing sparing-lawful j sound s ready in
     let a = actions-at sparing j s d known in
-    let acted = spares-act j s d ready F between f h known (sparing j s d) (sparing-view j s d (slots-some j sound d known)) in
+    let acted = spares-act j s d ready F between f h known (sparing j s d) (sparing-view j s d (sound .someSlot d known)) in
     let g = f + fetched (action (sparing j s d)) in
     let after = spares-round j d F g s actions t r (subst (λ (x : Action). Spares j d F g (s .next) (act (s .resident) x)) (sym a) acted) in
     let onward = r .onward in

@@ -8,21 +8,10 @@ use lib.Dec.{ltb, leb, eqb}
 use lib.ListN.{length}
 use borrow.Author.Tests.{ltb-false, leb-false, eqb-false}
 use Rattle.bits.specs.Reading.{got, _>>=_, _>>_, give, field, refuseIf, many, closing}
-use Rattle.bits.proofs.Logic.{or-false-left, or-false-right, Each}
+use Rattle.bits.proofs.Logic.{or-false-left, or-false-right, Each, each-at}
 use Rattle.bits.proofs.Reading.{bind-got, then-got, give-got, refuse-got, field-length, closing-got, Takes, many-takes}
-use Rattle.model.specs.Job.{Job, diskCount, blockCount, refCount}
+use Rattle.model.specs.Job.{Job, Sound, diskCount, blockCount, refCount}
 use Rattle.model.specs.Ticket.{slotsField, diskField, refField, ticketReader}
-
--- The values that document 01's table allows.
-pub record Sound (j : Job) : Type 0 where
-  pub someDisk : 1 ≤ diskCount j
-  pub fewDisks : diskCount j ≤ 8
-  pub slotted : Each (λ (s : ℕ). (1 ≤ s) × (s ≤ 64)) (j .slots)
-  pub someBlock : 1 ≤ blockCount j
-  pub fewBlocks : blockCount j ≤ 512
-  pub placed : Each (λ (k : ℕ). k < diskCount j) (j .disks)
-  pub fewRefs : refCount j ≤ 2048
-  pub named : Each (λ (r : ℕ). r < blockCount j) (j .refs)
 
 -- the bits of the fields of a ticket
 abbrev pub ticketWidth : Job → ℕ
@@ -112,12 +101,13 @@ reader-sound l j rest e =
           record {
             someDisk = omega arith;
             fewDisks = omega arith;
-            slotted = w₃ .2;
+            someSlot = λ e h. each-at _ slots (w₃ .2) e 0 h .0;
+            fewSlots = λ e h. each-at _ slots (w₃ .2) e 0 h .1;
             someBlock = omega arith;
             fewBlocks = omega arith;
-            placed = subst (λ (k : ℕ). Each (λ (x : ℕ). x < k) disks) (mathlib.Core.Path.sym (w₃ .0)) (w₆ .2);
+            onDisks = λ c h. (let k = each-at (λ (x : ℕ). x < d) disks (w₆ .2) c 0 h in omega (arith, k));
             fewRefs = omega arith;
-            named = subst (λ (k : ℕ). Each (λ (x : ℕ). x < k) refs) (mathlib.Core.Path.sym (w₆ .0)) (w₉ .2);
+            toBlocks = λ i h. (let k = each-at (λ (x : ℕ). x < b) refs (w₉ .2) i 0 h in omega (arith, k));
           },
           omega arith,
         )

@@ -12,11 +12,10 @@ use Rattle.bits.specs.Bits.{bits}
 use Rattle.bits.specs.Reading.{given, allZero}
 use Rattle.bits.proofs.Logic.{by-test, and-left, and-right}
 use Rattle.bits.proofs.Reading.{readAll-ok}
-use Rattle.model.specs.Job.{Job, blockCount, refCount, slotsOf}
+use Rattle.model.specs.Job.{Sound, Job, blockCount, refCount, slotsOf}
 use Rattle.model.specs.Playing.{Action, idle, fetch, replace, Schedule, State, start, load, act, actAll, playRound, play}
 use Rattle.model.specs.Sheet.{sheetBits, sheetReader, scheduleRead}
 use Rattle.model.specs.Valid.{Legal, LegalAll, ValidFrom, ValidSheet}
-use Rattle.model.proofs.Ticket.{Sound}
 use Rattle.model.proofs.Buffers.{length-act, load-own, load-elsewhere, load-before}
 use Rattle.model.proofs.Playing.{round-plays}
 use Rattle.model.proofs.Rounds.{Ready, ready-start, ready-after, round-of}

@@ -2,7 +2,7 @@
 -- "Ticket and sheet": disks D, buffer slots of each disk, blocks B, the disk of each block, references N, each reference.
 -- Disks, blocks and positions in the reference string are numbers from 0. Assumes nothing.
 use mathlib.Core.List.{List}
-use Prim.Native.Nat.{ℕ}
+use Prim.Native.Nat.{ℕ, _≤_, _<_}
 use lib.ListN.{length, getD}
 
 pub record Job : Type 0 where
@@ -29,3 +29,15 @@ diskOf j b = getD (j .disks) b 0
 
 abbrev pub refAt : Job → ℕ → ℕ
 refAt j i = getD (j .refs) i 0
+
+-- The values that the table allows; every accepted ticket's job has them.
+pub record Sound (j : Job) : Type 0 where
+  pub someDisk : 1 ≤ diskCount j
+  pub fewDisks : diskCount j ≤ 8
+  pub someSlot : (d : ℕ) → d < diskCount j → 1 ≤ slotsOf j d
+  pub fewSlots : (d : ℕ) → d < diskCount j → slotsOf j d ≤ 64
+  pub someBlock : 1 ≤ blockCount j
+  pub fewBlocks : blockCount j ≤ 512
+  pub onDisks : (b : ℕ) → b < blockCount j → diskOf j b < diskCount j
+  pub fewRefs : refCount j ≤ 2048
+  pub toBlocks : (i : ℕ) → i < refCount j → refAt j i < blockCount j

@@ -1,0 +1,62 @@
+-- A job by value read back: the value of a sound job fits, and is that job; and what one entry of an array says of the job. Assumes nothing.
+use mathlib.Core.Path.{_≡_, refl, sym, ap, _∙_, subst}
+use mathlib.Core.List.{List, _++_}
+use Prim.Native.Nat.{ℕ, _-_, _≤_, _<_}
+use native.Mathlib.Omega.{arith}
+use lib.ListN.{length, take, getD, replicate, length-append, length-replicate, length-take}
+use lib.Seq.{take-append-seam, getD-take}
+use Rattle.model.specs.Job.{Job, Sound, diskCount, blockCount, refCount, slotsOf, diskOf, refAt}
+use Rattle.job.specs.Meaning.{jobOf, padTo, stored, Fits}
+use Rattle.job.specs.declared.Job.{Job as Stored}
+
+length-padTo : (n : ℕ) (l : List ℕ) → length l ≤ n → length (padTo n l) ≡ n
+unfolding padTo
+length-padTo n l h =
+    let e = length-append l (replicate (n - length l) 0) in
+    let r = length-replicate {A = ℕ} (n - length l) 0 in
+    omega (arith, e, r)
+
+take-padTo : (n : ℕ) (l : List ℕ) → take (length l) (padTo n l) ≡ l
+unfolding padTo
+take-padTo n l = take-append-seam l (replicate (n - length l) 0)
+
+pub jobOf-stored : (j : Job) → jobOf (stored j) ≡ j
+unfolding jobOf stored
+jobOf-stored j = λ i. record { slots = take-padTo 8 (j .slots) i; disks = take-padTo 512 (j .disks) i; refs = take-padTo 2048 (j .refs) i }
+
+pub stored-fits : (j : Job) → Sound j → Fits (stored j)
+unfolding stored
+stored-fits j h = record {
+  longSlots = length-padTo 8 (j .slots) (h .fewDisks);
+  longDisk = length-padTo 512 (j .disks) (h .fewBlocks);
+  longRefs = length-padTo 2048 (j .refs) (h .fewRefs);
+  fewDisks = h .fewDisks;
+  fewBlocks = h .fewBlocks;
+  fewRefs = h .fewRefs;
+  sound = subst Sound (sym (jobOf-stored j)) h;
+}
+
+module _ (c : Stored) (h : Fits c) where
+  pub disks-are : diskCount (jobOf c) ≡ c .disks
+  unfolding jobOf
+  disks-are = length-take (c .disks) (c .slots) ∙ (let a = h .longSlots in let b = h .fewDisks in omega (arith, a, b))
+
+  pub blocks-are : blockCount (jobOf c) ≡ c .blocks
+  unfolding jobOf
+  blocks-are = length-take (c .blocks) (c .disk) ∙ (let a = h .longDisk in let b = h .fewBlocks in omega (arith, a, b))
+
+  pub refs-are : refCount (jobOf c) ≡ c .count
+  unfolding jobOf
+  refs-are = length-take (c .count) (c .refs) ∙ (let a = h .longRefs in let b = h .fewRefs in omega (arith, a, b))
+
+  pub slots-at : (d : ℕ) → d < c .disks → slotsOf (jobOf c) d ≡ getD (c .slots) d 0
+  unfolding jobOf
+  slots-at d l = getD-take (c .disks) (c .slots) d 0 l
+
+  pub disk-at : (b : ℕ) → b < c .blocks → diskOf (jobOf c) b ≡ getD (c .disk) b 0
+  unfolding jobOf
+  disk-at b l = getD-take (c .blocks) (c .disk) b 0 l
+
+  pub ref-at : (i : ℕ) → i < c .count → refAt (jobOf c) i ≡ getD (c .refs) i 0
+  unfolding jobOf
+  ref-at i l = getD-take (c .count) (c .refs) i 0 l

@@ -1,0 +1,12 @@
+// A job by value, as reading a ticket gives it. Entries past the counts are 0.
+pub struct Job {
+    // disks D, and the buffer slots of each
+    pub disks: usize,
+    pub slots: [u8; 8],
+    // blocks B, and the disk of each
+    pub blocks: usize,
+    pub disk: [u8; 512],
+    // references N, and the block of each
+    pub count: usize,
+    pub refs: [u16; 2048],
+}
