@@ -16,10 +16,10 @@ use Rattle.bits.proofs.Logic.{Each}
 use Rattle.bits.proofs.Reading.{got-value, got-rest, stop-got}
 
 -- one more digit: b below `high`, above the w digits of x
-two : (w : ℕ) → 2 ^ suc w ≡ 2 * 2 ^ w
+pub two : (w : ℕ) → 2 ^ suc w ≡ 2 * 2 ^ w
 two w = pow-suc 2 w ∙ mul-comm (2 ^ w) 2
 
-shift-in : (high b w x : ℕ) → (high * 2 + b) * 2 ^ w + x ≡ high * 2 ^ suc w + (b * 2 ^ w + x)
+pub shift-in : (high b w x : ℕ) → (high * 2 + b) * 2 ^ w + x ≡ high * 2 ^ suc w + (b * 2 ^ w + x)
 shift-in high b w x =
     ap (λ (y : ℕ). y + x) (add-mul (high * 2) b (2 ^ w) ∙ ap (λ (y : ℕ). y + b * 2 ^ w) (mul-assoc high 2 (2 ^ w) ∙ ap (λ (y : ℕ). high * y) (sym (two w))))
     ∙ add-assoc (high * 2 ^ suc w) (b * 2 ^ w) x
@@ -43,7 +43,7 @@ length-bits (b ∷ s) =
     let ih = length-bits s in
     omega (arith, e, d, ih)
 
-length-bytes : (n : ℕ) (l : List ℕ) → length (bytes n l) ≡ n
+pub length-bytes : (n : ℕ) (l : List ℕ) → length (bytes n l) ≡ n
 unfolding bytes
 length-bytes zero l = refl
 length-bytes (suc n) l = ap suc (length-bytes n (drop 8 l))
@@ -57,7 +57,7 @@ length-pack l = length-bytes (bytesFor (length l)) l
 pub Bits : List ℕ → Type 0
 Bits l = Each (λ (b : ℕ). b < 2) l
 
-digits-are : (w v : ℕ) (l : List ℕ) → Bits l → Bits (digits w v ++ l)
+pub digits-are : (w v : ℕ) (l : List ℕ) → Bits l → Bits (digits w v ++ l)
 unfolding digits Bits Each
 digits-are zero v l h = h
 digits-are (suc w) v l h = (mod-lt (v / 2 ^ w) (lit< tt), digits-are w v l h)
@@ -88,7 +88,7 @@ digits-top w b x hb hx =
 
 -- A number written as a field reads back.
 
-fieldAfter-digits : (n w high v : ℕ) (l : List ℕ) → fieldAfter n w high (digits w v ++ l) ≡ got (high * 2 ^ w + v % 2 ^ w) l
+pub fieldAfter-digits : (n w high v : ℕ) (l : List ℕ) → fieldAfter n w high (digits w v ++ l) ≡ got (high * 2 ^ w + v % 2 ^ w) l
 unfolding fieldAfter digits
 fieldAfter-digits n zero high v l = ap (λ (x : ℕ). got x l) (sym (ap₂ (λ (x y : ℕ). x + y) (mul-one high) (mod-one v) ∙ add-zero high))
 fieldAfter-digits n (suc w) high v l =
@@ -136,7 +136,7 @@ first zero l = []
 first (suc w) [] = 0 ∷ first w []
 first (suc w) (b ∷ l) = b ∷ first w l
 
-leading-high : (w high : ℕ) (l : List ℕ) → Bits l → (x : ℕ) × (x < 2 ^ w) × (leading w high l ≡ high * 2 ^ w + x)
+pub leading-high : (w high : ℕ) (l : List ℕ) → Bits l → (x : ℕ) × (x < 2 ^ w) × (leading w high l ≡ high * 2 ^ w + x)
 unfolding leading Bits Each
 leading-high zero high l h = (0, lit< tt, sym (add-zero (high * 1) ∙ mul-one high))
 leading-high (suc w) high [] h =
@@ -150,7 +150,7 @@ leading-high (suc w) high (b ∷ l) h =
     (b * 2 ^ w + r .0, more-below w b (r .0) (h .0) (r .1), r .2 ∙ shift-in high b w (r .0))
 
 -- the digit that stands at place w of a number of which `high` stands above it
-digit-of : (w high : ℕ) (l : List ℕ) → Bits l → leading w high l / 2 ^ w ≡ high
+pub digit-of : (w high : ℕ) (l : List ℕ) → Bits l → leading w high l / 2 ^ w ≡ high
 digit-of w high l h = let r = leading-high w high l h in ap (λ (y : ℕ). y / 2 ^ w) (r .2) ∙ lib.Pow.high high w (r .1)
 
 digits-leading : (w high : ℕ) (l : List ℕ) → Bits l → digits w (leading w high l) ≡ first w l
@@ -174,13 +174,13 @@ first-rest (suc w) m [] =
 first-rest (suc w) m (b ∷ l) =
     let e : suc w + m - suc (length l) ≡ w + m - length l = omega arith in rw e (ap (λ (x : List ℕ). b ∷ x) (first-rest w m l))
 
-drop-bits : (w : ℕ) (l : List ℕ) → Bits l → Bits (drop w l)
+pub drop-bits : (w : ℕ) (l : List ℕ) → Bits l → Bits (drop w l)
 unfolding Bits Each
 drop-bits zero l h = h
 drop-bits (suc w) [] h = h
 drop-bits (suc w) (b ∷ l) h = drop-bits w l (h .1)
 
-bits-bytes : (n : ℕ) (l : List ℕ) → Bits l → length l ≤ n * 8 → bits (bytes n l) ≡ l ++ replicate (n * 8 - length l) 0
+pub bits-bytes : (n : ℕ) (l : List ℕ) → Bits l → length l ≤ n * 8 → bits (bytes n l) ≡ l ++ replicate (n * 8 - length l) 0
 unfolding bits bytes
 bits-bytes zero [] h p = refl
 bits-bytes zero (b ∷ l) h p = absurd (omega arith)

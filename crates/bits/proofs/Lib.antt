@@ -1,3 +1,4 @@
 pub mod Logic
 pub mod Reading
 pub mod Bits
+pub mod Fields
