@@ -4,15 +4,16 @@ use mathlib.Core.Bool.{Bool, true, false}
 use mathlib.Core.List.{List, [], _∷_, _++_}
 use Prim.Native.Nat.{ℕ, zero, suc, _+_, _-_, _*_, _/_, _%_, _^_, _<_, _≤_}
 use native.Mathlib.Nat.{add-zero, zero-add, suc-add, suc-mul, zero-mul, mod-eq-of-lt, mod-lt, one-mul, div-add-mod', not-suc-le-zero}
+use native.Mathlib.Numerals.{add-one}
 use native.Mathlib.Omega.{arith}
 use lib.Dec.{leb, lit<}
-use lib.ListN.{length, drop, getD, length-drop}
-use lib.Seq.{drop-nil, drop-drop, drop-append-add, getD-drop}
+use lib.ListN.{length, take, drop, getD, set, length-drop, length-set}
+use lib.Seq.{length-take-le, drop-nil, take-suc, drop-cons, append-snoc, drop-drop, drop-append-add, getD-drop, set-at, set-out}
 use lib.Pow.{pow-pos}
 use borrow.Author.Tests.{leb-true, leb-false, le-leb, lt-leb}
-use Rattle.bits.specs.Bits.{digits, bits, leading}
+use Rattle.bits.specs.Bits.{digits, bits, leading, over, laid}
 use Rattle.bits.specs.Reading.{got, stop, fieldAfter, field}
-use Rattle.bits.specs.Fields.{pickField, fieldAt, readOf}
+use Rattle.bits.specs.Fields.{pickField, fieldAt, readOf, laidAt}
 use Rattle.bits.specs.declared.Field.{Field}
 use Rattle.bits.specs.declared.Field.the-variants.{Value, Ended}
 use Rattle.bits.proofs.Logic.{by-test}
@@ -157,3 +158,55 @@ window-shows w at s h =
 -- a one shifted left, in 64 bits
 pub one-shifted : (w : ℕ) → w < 64 → 1 * 2 ^ w % 2 ^ 64 ≡ 2 ^ w
 one-shifted w h = rw (one-mul (2 ^ w)) (mod-eq-of-lt (lib.Pow.pow-lt h))
+
+-- Writing a string at the start of a slice.
+
+over-take : (n : ℕ) (s lent : List ℕ) → n ≤ length s → over (take n s) lent ≡ take n s ++ drop n lent
+unfolding over
+over-take n s lent h = rw (length-take-le n s h)
+
+pub over-none : (s lent : List ℕ) → over (take 0 s) lent ≡ lent
+unfolding over
+over-none s lent = refl
+
+-- one byte more
+pub over-more : (i : ℕ) (s lent : List ℕ) → i < length s → i < length lent
+    → set (over (take i s) lent) i (getD s i 0) ≡ over (take (i + 1) s) lent
+over-more i s lent p q =
+    let e = length-take-le i s (omega arith) in
+    let l : suc i ≤ length s = p in
+    rw (add-one i, over-take i s lent (omega arith), over-take (suc i) s lent l, drop-cons lent i 0 q, take-suc s i 0 p) (set-at (take i s) _ _ _ i e ∙ sym (append-snoc (take i s) _ _))
+
+-- Writing as far as a slice reaches.
+
+pub laid-nil : (lent : List ℕ) → laid [] lent ≡ lent
+unfolding laid
+laid-nil lent = refl
+
+-- one string, and then another after it
+pub laid-more : (s t lent : List ℕ) → laidAt (length s) t (laid s lent) ≡ laid (s ++ t) lent
+unfolding laidAt
+laid-more [] t lent = refl
+laid-more (x ∷ s) [] [] = refl
+laid-more (x ∷ s) (y ∷ t) [] = refl
+laid-more (x ∷ s) t (y ∷ lent) = ap (λ (l : List ℕ). x ∷ l) (laid-more s t lent)
+
+-- two bytes are two stores; one past the end changes nothing
+laid-stores : (k x y : ℕ) (lent : List ℕ) → laidAt k (x ∷ y ∷ []) lent ≡ set (set lent k x) (suc k) y
+unfolding laidAt
+laid-stores zero x y [] = refl
+laid-stores zero x y (a ∷ []) = refl
+laid-stores zero x y (a ∷ b ∷ lent) = refl
+laid-stores (suc k) x y [] = refl
+laid-stores (suc k) x y (a ∷ lent) = ap (λ (l : List ℕ). a ∷ l) (laid-stores k x y lent)
+
+pub laid-two : (k x y : ℕ) (lent : List ℕ) → laidAt k (x ∷ y ∷ []) lent ≡ set (set lent k x) (k + 1) y
+laid-two k x y lent = rw add-one (laid-stores k x y lent)
+
+pub laid-one : (k x y : ℕ) (lent : List ℕ) → length lent ≤ k + 1 → laidAt k (x ∷ y ∷ []) lent ≡ set lent k x
+laid-one k x y lent h =
+    let e = length-set lent k x in
+    laid-two k x y lent ∙ set-out (set lent k x) (k + 1) y (omega arith)
+
+pub laid-none : (k x y : ℕ) (lent : List ℕ) → length lent ≤ k → laidAt k (x ∷ y ∷ []) lent ≡ lent
+laid-none k x y lent h = laid-one k x y lent (omega arith) ∙ set-out lent k x h

@@ -1,10 +1,10 @@
--- A field at a position of a string of bytes. Assumes nothing.
+-- A field at a position of a string of bytes, read and written. Assumes nothing.
 use mathlib.Core.Bool.{Bool, true, false}
-use mathlib.Core.List.{List}
+use mathlib.Core.List.{List, _++_}
 use Prim.Native.Nat.{ℕ, _+_, _*_}
 use lib.Dec.{leb}
-use lib.ListN.{length, drop}
-use Rattle.bits.specs.Bits.{bits, leading}
+use lib.ListN.{length, take, drop}
+use Rattle.bits.specs.Bits.{bits, leading, laid}
 use Rattle.bits.specs.Reading.{Read, got, stop}
 use Rattle.bits.specs.declared.Field.{Field}
 use Rattle.bits.specs.declared.Field.the-variants.{Value, Ended}
@@ -21,3 +21,8 @@ fieldAt s at w = pickField (leb (at + w) (length s * 8)) (Value (leading w 0 (dr
 unfoldable pub readOf : ℕ → List ℕ → Field → Read ℕ
 readOf n rest (Value v) = got v rest
 readOf n rest Ended = stop n
+
+-- A string written into a lent slice from byte k on, as far as that slice reaches.
+unfoldable pub laidAt : ℕ → List ℕ → List ℕ → List ℕ
+unfolding laid
+laidAt k s lent = take k lent ++ laid s (drop k lent)
