@@ -1,13 +1,13 @@
 -- Lengths, and the way there and back: a number written as a field reads back, a field that was read is the field written, and the bits of
 -- packed bytes are the bits with zeros after them. Assumes nothing.
 use mathlib.Core.Path.{_≡_, refl, sym, ap, ap₂, _∙_, subst}
-use mathlib.Core.List.{List, [], _∷_, _++_, append-assoc}
+use mathlib.Core.List.{List, [], _∷_, _++_, append-assoc, append-nil}
 use Prim.Native.Nat.{ℕ, zero, suc, _+_, _-_, _*_, _/_, _%_, _^_, _<_, _≤_}
 use native.Mathlib.Nat.{add-zero, zero-add, add-assoc, mul-one, zero-mul, suc-mul, mul-assoc, mul-comm, add-mul, pow-suc, mod-lt, mod-one, mod-eq-of-lt, mul-mod-left, mul-add-div-right, mul-add-mod-self-right}
 use native.Mathlib.Omega.{arith}
 use lib.Arith.{mod-mul, digits-lt}
 use lib.Dec.{lit<}
-use lib.ListN.{length, drop, replicate, length-append, length-drop}
+use lib.ListN.{length, take, drop, replicate, length-append, length-drop}
 use lib.Seq.{drop-nil}
 use lib.Pow.{pow-pos}
 use Rattle.bits.specs.Bits.{digits, bits, leading, bytes, bytesFor, pack}
@@ -54,10 +54,10 @@ length-pack l = length-bytes (bytesFor (length l)) l
 
 -- a bit is 0 or 1
 
-pub Bits : List ℕ → Type 0
+unfoldable pub Bits : List ℕ → Type 0
 Bits l = Each (λ (b : ℕ). b < 2) l
 
-pub digits-are : (w v : ℕ) (l : List ℕ) → Bits l → Bits (digits w v ++ l)
+digits-are : (w v : ℕ) (l : List ℕ) → Bits l → Bits (digits w v ++ l)
 unfolding digits Bits Each
 digits-are zero v l h = h
 digits-are (suc w) v l h = (mod-lt (v / 2 ^ w) (lit< tt), digits-are w v l h)
@@ -66,6 +66,27 @@ pub bits-are : (s : List ℕ) → Bits (bits s)
 unfolding bits Bits Each
 bits-are [] = tt
 bits-are (b ∷ s) = digits-are 8 b (bits s) (bits-are s)
+
+pub digits-bits : (w v : ℕ) → Bits (digits w v)
+unfolding Bits Each
+digits-bits w v = rw append-nil at (digits-are w v [] tt)
+
+pub append-bits : (l m : List ℕ) → Bits l → Bits m → Bits (l ++ m)
+unfolding Bits Each
+append-bits [] m hl hm = hm
+append-bits (b ∷ l) m hl hm = (hl .0, append-bits l m (hl .1) hm)
+
+pub take-bits : (w : ℕ) (l : List ℕ) → Bits l → Bits (take w l)
+unfolding Bits Each
+take-bits zero l h = tt
+take-bits (suc w) [] h = h
+take-bits (suc w) (b ∷ l) h = (h .0, take-bits w l (h .1))
+
+pub drop-bits : (w : ℕ) (l : List ℕ) → Bits l → Bits (drop w l)
+unfolding Bits Each
+drop-bits zero l h = h
+drop-bits (suc w) [] h = h
+drop-bits (suc w) (b ∷ l) h = drop-bits w l (h .1)
 
 -- the digits of a number do not see what stands above them
 digits-low : (w a v : ℕ) → digits w (a * 2 ^ w + v) ≡ digits w v
@@ -173,12 +194,6 @@ first-rest (suc w) m [] =
     let e : suc w + m - 0 ≡ suc (w + m - 0) = omega arith in rw e (ap (λ (x : List ℕ). 0 ∷ x) (subst (λ (z : List ℕ). first w [] ++ (z ++ replicate (m - length z) 0) ≡ replicate (w + m - 0) 0) (drop-nil w) (first-rest w m [])))
 first-rest (suc w) m (b ∷ l) =
     let e : suc w + m - suc (length l) ≡ w + m - length l = omega arith in rw e (ap (λ (x : List ℕ). b ∷ x) (first-rest w m l))
-
-pub drop-bits : (w : ℕ) (l : List ℕ) → Bits l → Bits (drop w l)
-unfolding Bits Each
-drop-bits zero l h = h
-drop-bits (suc w) [] h = h
-drop-bits (suc w) (b ∷ l) h = drop-bits w l (h .1)
 
 pub bits-bytes : (n : ℕ) (l : List ℕ) → Bits l → length l ≤ n * 8 → bits (bytes n l) ≡ l ++ replicate (n * 8 - length l) 0
 unfolding bits bytes

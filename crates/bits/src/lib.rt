@@ -2,15 +2,32 @@
 pub mod read;
 
 ghost use mathlib.Core.Path.{_≡_};
-ghost use Prim.Native.Nat.{_*_, _^_, _≤_, _<_};
+ghost use Prim.Native.Nat.{_+_, _*_, _/_, _^_, _≤_, _<_};
 ghost use lib.ListN.{length, take};
-ghost use Rattle.bits.specs.Bits.{be16, over};
-ghost use Rattle.bits.specs.Fields.{laidAt};
+ghost use Rattle.bits.specs.Bits.{digits, be16, over};
+ghost use Rattle.bits.specs.Fields.{putBits, clearFrom, laidAt};
 
 // What reading a field gives: its value, or that the bytes end inside it.
 pub enum Field {
     Value(usize),
     Ended,
+}
+
+// A number put as a field of `width` bits at the bit `at` of a buffer that is zero from there on.
+pub fn put(buf: &mut [u8], at: usize, width: usize, value: usize)
+    requires { ⌜ width ≤ 20 ⌝ }
+    requires { ⌜ value < 2 ^ width ⌝ }
+    requires { ⌜ at < 2 ^ 32 ⌝ }
+    requires { ⌜ at / 8 + 4 ≤ length (now buf) ⌝ }
+    requires { ⌜ clearFrom at (now buf) ⌝ }
+    ensures { λ r. ⌜ now (buf .exit) ≡ putBits (now (buf .entry)) at (digits width value) ⌝ }
+{
+    let i = at / 8;
+    let word = value << (32 - at % 8 - width);
+    buf[i] = (buf[i] as usize + word / 16777216) as u8;
+    buf[i + 1] = (word / 65536 % 256) as u8;
+    buf[i + 2] = (word / 256 % 256) as u8;
+    buf[i + 3] = (word % 256) as u8;
 }
 
 // The first n bytes of `src` written at the start of `dst`.
