@@ -1,4 +1,4 @@
-// Reading fields. `field` cannot stand beside `Field`: rattle refuses two items of one module whose names differ only in case.
+// Reading fields. A module of its own: two items of one module may not have names that differ only in case, as `field` and `Field`.
 use crate::Field;
 ghost use mathlib.Core.Path.{_≡_};
 ghost use Prim.Native.Nat.{_*_, _^_, _≤_, _<_};

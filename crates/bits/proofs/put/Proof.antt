@@ -5,13 +5,14 @@ use Prim.Native.Nat.{_/_, _%_, _^_}
 use native.Mathlib.Omega.{arith}
 use lib.ListN.{length-set}
 use denote.Ref.{now}
-use Rattle.bits.proofs.Fields.{Stored, wordOf, put-stored, word-shifted}
+use Rattle.bits.proofs.Stores.{Stored, wordOf, put-stored, word-shifted}
 use Rattle.bits.proofs.put.Statement.{statement}
 use Rattle.bits.proofs.put.Tie as tie
 
 stored : (c : tie.Start) → Stored (now (c .args .buf)) (c .args .at) (c .args .width) (c .args .value)
 stored c =
-    put-stored (c .args .at) (c .args .width) (c .args .value) (now (c .args .buf)) (c .pre .1 .1 .1 .1) (c .pre .1 .1 .1 .0) (c .pre .0) (c .pre .1 .0)
+    let more = c .pre .1 .1 .1 in
+    put-stored (c .args .at) (c .args .width) (c .args .value) (now (c .args .buf)) (more .1) (more .0) (c .pre .0) (c .pre .1 .0)
 
 -- no bit is lost by the shift
 word : (c : tie.Start) → wordOf (c .args .at) (c .args .width) (c .args .value) % 2 ^ 64 ≡ wordOf (c .args .at) (c .args .width) (c .args .value)

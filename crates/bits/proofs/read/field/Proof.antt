@@ -7,7 +7,7 @@ use lib.Pow.{pow-pos}
 use borrow.Author.Tests.{le-leb, lt-leb}
 use denote.Ref.{now}
 use Rattle.bits.specs.Fields.{fieldAt}
-use Rattle.bits.proofs.Fields.{one-shifted, window-shows}
+use Rattle.bits.proofs.Window.{one-shifted, window-shows}
 use Rattle.bits.proofs.read.field.Statement.{statement}
 use Rattle.bits.proofs.read.field.Tie as tie
 

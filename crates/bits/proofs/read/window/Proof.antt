@@ -1,7 +1,7 @@
 -- `bits::read::window` meets its contract: three bytes are 24 bits. Assumes nothing.
 use borrow.Author.Needs.{needs}
 use denote.Ref.{now}
-use Rattle.bits.proofs.Fields.{window-bytes}
+use Rattle.bits.proofs.Window.{window-bytes}
 use Rattle.bits.proofs.read.window.Statement.{statement}
 use Rattle.bits.proofs.read.window.Tie as tie
 
