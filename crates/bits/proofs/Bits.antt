@@ -1,13 +1,13 @@
 -- Lengths, and the way there and back: a number written as a field reads back, a field that was read is the field written, and the bits of
 -- packed bytes are the bits with zeros after them. Assumes nothing.
 use mathlib.Core.Path.{_≡_, refl, sym, ap, ap₂, _∙_, subst}
-use mathlib.Core.List.{List, [], _∷_, _++_}
+use mathlib.Core.List.{List, [], _∷_, _++_, append-assoc, append-nil}
 use Prim.Native.Nat.{ℕ, zero, suc, _+_, _-_, _*_, _/_, _%_, _^_, _<_, _≤_}
 use native.Mathlib.Nat.{add-zero, zero-add, add-assoc, mul-one, zero-mul, suc-mul, mul-assoc, mul-comm, add-mul, pow-suc, mod-lt, mod-one, mod-eq-of-lt, mul-mod-left, mul-add-div-right, mul-add-mod-self-right}
 use native.Mathlib.Omega.{arith}
 use lib.Arith.{mod-mul, digits-lt}
 use lib.Dec.{lit<}
-use lib.ListN.{length, drop, replicate, length-append, length-drop}
+use lib.ListN.{length, take, drop, replicate, length-append, length-drop}
 use lib.Seq.{drop-nil}
 use lib.Pow.{pow-pos}
 use Rattle.bits.specs.Bits.{digits, bits, leading, bytes, bytesFor, pack}
@@ -16,10 +16,10 @@ use Rattle.bits.proofs.Logic.{Each}
 use Rattle.bits.proofs.Reading.{got-value, got-rest, stop-got}
 
 -- one more digit: b below `high`, above the w digits of x
-two : (w : ℕ) → 2 ^ suc w ≡ 2 * 2 ^ w
+pub two : (w : ℕ) → 2 ^ suc w ≡ 2 * 2 ^ w
 two w = pow-suc 2 w ∙ mul-comm (2 ^ w) 2
 
-shift-in : (high b w x : ℕ) → (high * 2 + b) * 2 ^ w + x ≡ high * 2 ^ suc w + (b * 2 ^ w + x)
+pub shift-in : (high b w x : ℕ) → (high * 2 + b) * 2 ^ w + x ≡ high * 2 ^ suc w + (b * 2 ^ w + x)
 shift-in high b w x =
     ap (λ (y : ℕ). y + x) (add-mul (high * 2) b (2 ^ w) ∙ ap (λ (y : ℕ). y + b * 2 ^ w) (mul-assoc high 2 (2 ^ w) ∙ ap (λ (y : ℕ). high * y) (sym (two w))))
     ∙ add-assoc (high * 2 ^ suc w) (b * 2 ^ w) x
@@ -43,7 +43,7 @@ length-bits (b ∷ s) =
     let ih = length-bits s in
     omega (arith, e, d, ih)
 
-length-bytes : (n : ℕ) (l : List ℕ) → length (bytes n l) ≡ n
+pub length-bytes : (n : ℕ) (l : List ℕ) → length (bytes n l) ≡ n
 unfolding bytes
 length-bytes zero l = refl
 length-bytes (suc n) l = ap suc (length-bytes n (drop 8 l))
@@ -67,6 +67,27 @@ unfolding bits Bits Each
 bits-are [] = tt
 bits-are (b ∷ s) = digits-are 8 b (bits s) (bits-are s)
 
+pub digits-bits : (w v : ℕ) → Bits (digits w v)
+unfolding Bits Each
+digits-bits w v = rw append-nil at (digits-are w v [] tt)
+
+pub append-bits : (l m : List ℕ) → Bits l → Bits m → Bits (l ++ m)
+unfolding Bits Each
+append-bits [] m hl hm = hm
+append-bits (b ∷ l) m hl hm = (hl .0, append-bits l m (hl .1) hm)
+
+pub take-bits : (w : ℕ) (l : List ℕ) → Bits l → Bits (take w l)
+unfolding Bits Each
+take-bits zero l h = tt
+take-bits (suc w) [] h = h
+take-bits (suc w) (b ∷ l) h = (h .0, take-bits w l (h .1))
+
+pub drop-bits : (w : ℕ) (l : List ℕ) → Bits l → Bits (drop w l)
+unfolding Bits Each
+drop-bits zero l h = h
+drop-bits (suc w) [] h = h
+drop-bits (suc w) (b ∷ l) h = drop-bits w l (h .1)
+
 -- the digits of a number do not see what stands above them
 digits-low : (w a v : ℕ) → digits w (a * 2 ^ w + v) ≡ digits w v
 unfolding digits
@@ -88,7 +109,7 @@ digits-top w b x hb hx =
 
 -- A number written as a field reads back.
 
-fieldAfter-digits : (n w high v : ℕ) (l : List ℕ) → fieldAfter n w high (digits w v ++ l) ≡ got (high * 2 ^ w + v % 2 ^ w) l
+pub fieldAfter-digits : (n w high v : ℕ) (l : List ℕ) → fieldAfter n w high (digits w v ++ l) ≡ got (high * 2 ^ w + v % 2 ^ w) l
 unfolding fieldAfter digits
 fieldAfter-digits n zero high v l = ap (λ (x : ℕ). got x l) (sym (ap₂ (λ (x y : ℕ). x + y) (mul-one high) (mod-one v) ∙ add-zero high))
 fieldAfter-digits n (suc w) high v l =
@@ -136,7 +157,7 @@ first zero l = []
 first (suc w) [] = 0 ∷ first w []
 first (suc w) (b ∷ l) = b ∷ first w l
 
-leading-high : (w high : ℕ) (l : List ℕ) → Bits l → (x : ℕ) × (x < 2 ^ w) × (leading w high l ≡ high * 2 ^ w + x)
+pub leading-high : (w high : ℕ) (l : List ℕ) → Bits l → (x : ℕ) × (x < 2 ^ w) × (leading w high l ≡ high * 2 ^ w + x)
 unfolding leading Bits Each
 leading-high zero high l h = (0, lit< tt, sym (add-zero (high * 1) ∙ mul-one high))
 leading-high (suc w) high [] h =
@@ -150,7 +171,7 @@ leading-high (suc w) high (b ∷ l) h =
     (b * 2 ^ w + r .0, more-below w b (r .0) (h .0) (r .1), r .2 ∙ shift-in high b w (r .0))
 
 -- the digit that stands at place w of a number of which `high` stands above it
-digit-of : (w high : ℕ) (l : List ℕ) → Bits l → leading w high l / 2 ^ w ≡ high
+pub digit-of : (w high : ℕ) (l : List ℕ) → Bits l → leading w high l / 2 ^ w ≡ high
 digit-of w high l h = let r = leading-high w high l h in ap (λ (y : ℕ). y / 2 ^ w) (r .2) ∙ lib.Pow.high high w (r .1)
 
 digits-leading : (w high : ℕ) (l : List ℕ) → Bits l → digits w (leading w high l) ≡ first w l
@@ -174,13 +195,7 @@ first-rest (suc w) m [] =
 first-rest (suc w) m (b ∷ l) =
     let e : suc w + m - suc (length l) ≡ w + m - length l = omega arith in rw e (ap (λ (x : List ℕ). b ∷ x) (first-rest w m l))
 
-drop-bits : (w : ℕ) (l : List ℕ) → Bits l → Bits (drop w l)
-unfolding Bits Each
-drop-bits zero l h = h
-drop-bits (suc w) [] h = h
-drop-bits (suc w) (b ∷ l) h = drop-bits w l (h .1)
-
-bits-bytes : (n : ℕ) (l : List ℕ) → Bits l → length l ≤ n * 8 → bits (bytes n l) ≡ l ++ replicate (n * 8 - length l) 0
+pub bits-bytes : (n : ℕ) (l : List ℕ) → Bits l → length l ≤ n * 8 → bits (bytes n l) ≡ l ++ replicate (n * 8 - length l) 0
 unfolding bits bytes
 bits-bytes zero [] h p = refl
 bits-bytes zero (b ∷ l) h p = absurd (omega arith)

@@ -1,3 +1,7 @@
 pub mod Logic
 pub mod Reading
 pub mod Bits
+pub mod Leading
+pub mod Fields
+mod Window
+mod Stores

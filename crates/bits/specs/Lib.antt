@@ -1,2 +1,3 @@
 pub mod Bits
 pub mod Reading
+pub mod Fields

@@ -1,0 +1,162 @@
+-- The laws of fields and of what is written: a field read at a position is what a reader reads there, bits put one after the other are
+-- packed bytes, and strings written one after the other are one string. Assumes nothing.
+use mathlib.Core.Path.{_≡_, refl, sym, ap, ap₂, _∙_}
+use mathlib.Core.Bool.{Bool, true, false}
+use mathlib.Core.List.{List, [], _∷_, _++_, append-nil}
+use Prim.Native.Nat.{ℕ, zero, suc, _+_, _-_, _*_, _/_, _%_, _^_, _<_, _≤_}
+use native.Mathlib.Numerals.{add-one}
+use native.Mathlib.Omega.{arith}
+use lib.Dec.{leb, ltb}
+use lib.ListN.{length, take, drop, getD, set, replicate, length-append, length-drop, length-set, drop-of-length-le}
+use lib.Seq.{length-take-le, take-suc, drop-cons, append-snoc, take-append-seam, drop-drop, drop-append-le, set-at, set-out}
+use borrow.Author.Tests.{ltb-true, ltb-false, leb-true, leb-false}
+use Rattle.bits.specs.Bits.{bits, leading, bytes, bytesFor, pack, over, laid}
+use Rattle.bits.specs.Reading.{field}
+use Rattle.bits.specs.Fields.{pickField, fieldAt, readOf, putBit, putBits, clearFrom, laidAt}
+use Rattle.bits.specs.declared.Field.the-variants.{Value, Ended}
+use Rattle.bits.proofs.Logic.{by-test}
+use Rattle.bits.proofs.Bits.{Bits, bits-are, drop-bits, length-bits, length-bytes, bits-bytes}
+use Rattle.bits.proofs.Leading.{leading-below, leading-front, leading-snoc, fieldAfter-reads, fieldAfter-stops, take-bytes}
+
+-- Reading a field.
+
+-- Where the reader stands at the bit `at`, it reads the field at `at`, and stands after it.
+pub field-reads : (n w at : ℕ) (s : List ℕ) → 0 < w → field n w (drop at (bits s)) ≡ readOf n (drop (at + w) (bits s)) (fieldAt s at w)
+unfolding field fieldAt readOf
+field-reads n w at s p =
+    let l = drop at (bits s) in
+    let len = length-drop at (bits s) in
+    let all = length-bits s in
+    by-test (leb (at + w) (length s * 8))
+    (λ t. let h = leb-true (at + w) (length s * 8) t in
+    rw (t, ← drop-drop w at (bits s)) (fieldAfter-reads n w 0 l (omega arith)))
+    (λ t. let h = leb-false (at + w) (length s * 8) t in rw t (fieldAfter-stops n w 0 l (omega arith)))
+
+-- Its value is a number of w binary digits.
+pub field-below : (w at : ℕ) (s : List ℕ) {v : ℕ} → fieldAt s at w ≡ Value v → v < 2 ^ w
+unfolding fieldAt
+field-below w at s {v} e = go (leb (at + w) (length s * 8)) e
+  where
+    l : List ℕ
+    l = drop at (bits s)
+
+    go : (t : Bool) → pickField t (Value (leading w 0 l)) Ended ≡ Value v → v < 2 ^ w
+    go true q = let same : leading w 0 l ≡ v = cc in rw same at (leading-below w l (drop-bits at (bits s) (bits-are s)))
+    go false q = let z : _≡_ {A = ℕ} 0 1 = cc in absurd (omega arith)
+
+-- Packing bits into bytes.
+
+-- a bit of the first byte, and one of a later byte
+putBit-first : (a i b : ℕ) (s : List ℕ) → i < 8 → putBit (a ∷ s) i b ≡ (a + b * 2 ^ (7 - i)) ∷ s
+unfolding putBit
+putBit-first a i b s h =
+    let q : i / 8 ≡ 0 = omega arith in
+    let r : i % 8 ≡ i = omega arith in
+    rw (q, r)
+
+putBit-later : (a i j b : ℕ) (s : List ℕ) → i ≡ j + 8 → putBit (a ∷ s) i b ≡ a ∷ putBit s j b
+unfolding putBit
+putBit-later a i j b s e =
+    let q : i / 8 ≡ suc (j / 8) = omega arith in
+    let r : i % 8 ≡ j % 8 = omega arith in
+    rw (q, r)
+
+-- one bit after those that are there
+put-bit : (n b : ℕ) (l : List ℕ) → length l < n * 8 → putBit (bytes n l) (length l) b ≡ bytes n (l ++ b ∷ [])
+unfolding bytes
+put-bit zero b l h = absurd (omega arith)
+put-bit (suc n) b l h =
+    let len = length-drop 8 l in
+    let more = length-append l (b ∷ []) in
+    by-test (ltb (length l) 8)
+    (λ t. let p = ltb-true (length l) 8 t in
+    putBit-first (leading 8 0 l) (length l) b (bytes n (drop 8 l)) p
+    ∙ ap₂ (λ (x : ℕ) (s : List ℕ). x ∷ s)
+    (sym (leading-snoc 7 0 b l (omega arith)))
+    (ap (bytes n) (drop-of-length-le l {i = 8} (omega arith) ∙ sym (drop-of-length-le (l ++ b ∷ []) {i = 8} (omega arith)))))
+    (λ t. let p = ltb-false (length l) 8 t in
+    putBit-later (leading 8 0 l) (length l) (length (drop 8 l)) b (bytes n (drop 8 l)) (omega arith)
+    ∙ ap₂ (λ (x : ℕ) (s : List ℕ). x ∷ s)
+    (sym (leading-front 8 0 l (b ∷ []) p))
+    (put-bit n b (drop 8 l) (omega arith) ∙ ap (bytes n) (sym (drop-append-le 8 l (b ∷ []) p))))
+
+-- bits put one by one after those that are there
+put-all : (n : ℕ) (l m : List ℕ) → length l + length m ≤ n * 8 → putBits (bytes n l) (length l) m ≡ bytes n (l ++ m)
+unfolding putBits
+put-all n l [] h = rw append-nil
+put-all n l (b ∷ m) h =
+    let len = length-append l (b ∷ []) in
+    let e : length (l ++ b ∷ []) ≡ suc (length l) = omega arith in
+    rw (put-bit n b l (omega arith), ← e, ← append-snoc l b m) (put-all n (l ++ b ∷ []) m (omega arith))
+
+pub put-bytes : (n : ℕ) (l m : List ℕ) → Bits l → Bits m → length l + length m ≤ n * 8 → putBits (bytes n l) (length l) m ≡ bytes n (l ++ m)
+put-bytes n l m hl hm h = put-all n l m h
+
+-- A buffer of zeros has no bits yet.
+pub bytes-none : (n : ℕ) → replicate n 0 ≡ bytes n []
+unfolding bytes
+bytes-none zero = refl
+bytes-none (suc n) = ap (λ (s : List ℕ). 0 ∷ s) (bytes-none n)
+
+-- The bytes of a buffer that hold its bits.
+pub take-pack : (n : ℕ) (l : List ℕ) → bytesFor (length l) ≤ n → take (bytesFor (length l)) (bytes n l) ≡ pack l
+unfolding pack
+take-pack n l h = take-bytes (bytesFor (length l)) n l h
+
+-- A buffer is clear after the bits put into it.
+pub clear-bytes : (n : ℕ) (l : List ℕ) → Bits l → length l ≤ n * 8 → clearFrom (length l) (bytes n l)
+unfolding clearFrom
+clear-bytes n l b h = sym (rw (length-bytes n l, bits-bytes n l b h, take-append-seam l (replicate (n * 8 - length l) 0)))
+
+-- Writing a string at the start of a slice.
+
+over-take : (n : ℕ) (s lent : List ℕ) → n ≤ length s → over (take n s) lent ≡ take n s ++ drop n lent
+unfolding over
+over-take n s lent h = rw (length-take-le n s h)
+
+pub over-none : (s lent : List ℕ) → over (take 0 s) lent ≡ lent
+unfolding over
+over-none s lent = refl
+
+-- one byte more
+pub over-more : (i : ℕ) (s lent : List ℕ) → i < length s → i < length lent
+    → set (over (take i s) lent) i (getD s i 0) ≡ over (take (i + 1) s) lent
+over-more i s lent p q =
+    let e = length-take-le i s (omega arith) in
+    let more : suc i ≤ length s = p in
+    rw (add-one i, over-take i s lent (omega arith), over-take (suc i) s lent more, drop-cons lent i 0 q, take-suc s i 0 p)
+    (set-at (take i s) _ _ _ i e ∙ sym (append-snoc (take i s) _ _))
+
+-- Writing as far as a slice reaches.
+
+pub laid-nil : (lent : List ℕ) → laid [] lent ≡ lent
+unfolding laid
+laid-nil lent = refl
+
+-- one string, and then another after it
+pub laid-more : (s t lent : List ℕ) → laidAt (length s) t (laid s lent) ≡ laid (s ++ t) lent
+unfolding laidAt
+laid-more [] t lent = refl
+laid-more (x ∷ s) [] [] = refl
+laid-more (x ∷ s) (y ∷ t) [] = refl
+laid-more (x ∷ s) t (y ∷ lent) = ap (λ (l : List ℕ). x ∷ l) (laid-more s t lent)
+
+-- two bytes are two stores; one past the end changes nothing
+laid-stores : (k x y : ℕ) (lent : List ℕ) → laidAt k (x ∷ y ∷ []) lent ≡ set (set lent k x) (suc k) y
+unfolding laidAt
+laid-stores zero x y [] = refl
+laid-stores zero x y (a ∷ []) = refl
+laid-stores zero x y (a ∷ b ∷ lent) = refl
+laid-stores (suc k) x y [] = refl
+laid-stores (suc k) x y (a ∷ lent) = ap (λ (l : List ℕ). a ∷ l) (laid-stores k x y lent)
+
+pub laid-two : (k x y : ℕ) (lent : List ℕ) → laidAt k (x ∷ y ∷ []) lent ≡ set (set lent k x) (k + 1) y
+laid-two k x y lent = rw add-one (laid-stores k x y lent)
+
+pub laid-one : (k x y : ℕ) (lent : List ℕ) → length lent ≤ k + 1 → laidAt k (x ∷ y ∷ []) lent ≡ set lent k x
+laid-one k x y lent h =
+    let e = length-set lent k x in
+    laid-two k x y lent ∙ set-out (set lent k x) (k + 1) y (omega arith)
+
+pub laid-none : (k x y : ℕ) (lent : List ℕ) → length lent ≤ k → laidAt k (x ∷ y ∷ []) lent ≡ lent
+laid-none k x y lent h = laid-one k x y lent (omega arith) ∙ set-out lent k x h
