@@ -72,7 +72,7 @@ apart marks x z e f q = clash f (ap (isResident marks) q ∙ e)
 
 -- the load after an action
 
-load-elsewhere : (j : Job) (marks : List Bool) (d : ℕ) (a : Action) → Legal j marks d a → (e : ℕ) → e ≢ d → load j (act marks a) e ≡ load j marks e
+pub load-elsewhere : (j : Job) (marks : List Bool) (d : ℕ) (a : Action) → Legal j marks d a → (e : ℕ) → e ≢ d → load j (act marks a) e ≡ load j marks e
 unfolding load
 load-elsewhere j marks d a h e n =
     count-same _ _ (blockCount j) λ b l.
@@ -81,7 +81,7 @@ load-elsewhere j marks d a h e n =
     rw (act-elsewhere j marks d a h b (λ q. n (sym on ∙ q))))
     (λ f. and-false-left _ f ∙ sym (and-false-left _ f))
 
-load-own : (j : Job) (marks : List Bool) → blockCount j ≤ length marks → (d : ℕ) (a : Action) → Legal j marks d a
+pub load-own : (j : Job) (marks : List Bool) → blockCount j ≤ length marks → (d : ℕ) (a : Action) → Legal j marks d a
     → load j (act marks a) d + discarded a ≡ load j marks d + fetched a
 unfolding load Legal act
 load-own j marks long d idle h = refl
