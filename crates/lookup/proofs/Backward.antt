@@ -9,8 +9,8 @@ use Rattle.bits.specs.Bits.{laid}
 use Rattle.model.specs.Plans.{each}
 use Rattle.model.specs.Rules.{distance}
 use Rattle.lookup.specs.Lookup.{firsts, nextOf, agains}
-use Rattle.lookup.proofs.Distances.{distance-here, distance-on, distance-end}
-use Rattle.lookup.proofs.Laws.{length-each, set-each, firsts-at}
+use Rattle.model.proofs.Distances.{distance-here, distance-on, distance-end}
+use Rattle.lookup.proofs.Laws.{set-each, firsts-at}
 
 -- the table with the places from p on done
 pub doneFrom : List ℕ → ℕ → List ℕ → List ℕ

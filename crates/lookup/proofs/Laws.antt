@@ -13,7 +13,7 @@ use Rattle.bits.proofs.Logic.{by-test}
 use Rattle.model.specs.Plans.{each}
 use Rattle.model.specs.Rules.{distance}
 use Rattle.lookup.specs.Lookup.{Below, firsts, nextOf, agains, refDisks, chainFrom}
-use Rattle.lookup.proofs.Distances.{distance-from, distance-to, distance-hit, distance-least, distance-is, distance-skip, distance-on}
+use Rattle.model.proofs.Distances.{distance-from, distance-to, distance-hit, distance-least, distance-is, distance-skip, distance-on}
 
 -- past its end a list has the value 0
 pub below-any : (n : ℕ) (l : List ℕ) → 0 < n → Below n l → (i : ℕ) → getD l i 0 < n

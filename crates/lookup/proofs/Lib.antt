@@ -1,3 +1,2 @@
-pub mod Distances
 pub mod Laws
 mod Backward
