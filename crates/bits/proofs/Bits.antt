@@ -1,7 +1,7 @@
 -- Lengths, and the way there and back: a number written as a field reads back, a field that was read is the field written, and the bits of
 -- packed bytes are the bits with zeros after them. Assumes nothing.
 use mathlib.Core.Path.{_≡_, refl, sym, ap, ap₂, _∙_, subst}
-use mathlib.Core.List.{List, [], _∷_, _++_, append-assoc, append-nil}
+use mathlib.Core.List.{List, [], _∷_, _++_, append-nil}
 use Prim.Native.Nat.{ℕ, zero, suc, _+_, _-_, _*_, _/_, _%_, _^_, _<_, _≤_}
 use native.Mathlib.Nat.{add-zero, zero-add, add-assoc, mul-one, zero-mul, suc-mul, mul-assoc, mul-comm, add-mul, pow-suc, mod-lt, mod-one, mod-eq-of-lt, mul-mod-left, mul-add-div-right, mul-add-mod-self-right}
 use native.Mathlib.Omega.{arith}

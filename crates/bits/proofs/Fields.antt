@@ -92,6 +92,11 @@ put-all n l (b ∷ m) h =
 pub put-bytes : (n : ℕ) (l m : List ℕ) → Bits l → Bits m → length l + length m ≤ n * 8 → putBits (bytes n l) (length l) m ≡ bytes n (l ++ m)
 put-bytes n l m hl hm h = put-all n l m h
 
+-- The same of a buffer and a position that are known by equations.
+pub put-packed : (n at : ℕ) (l m s : List ℕ) → s ≡ bytes n l → at ≡ length l → Bits l → Bits m → at + length m ≤ n * 8
+    → putBits s at m ≡ bytes n (l ++ m)
+put-packed n at l m s e f hl hm h = rw (e, f) (put-bytes n l m hl hm (omega arith))
+
 -- A buffer of zeros has no bits yet.
 pub bytes-none : (n : ℕ) → replicate n 0 ≡ bytes n []
 unfolding bytes
@@ -107,6 +112,9 @@ take-pack n l h = take-bytes (bytesFor (length l)) n l h
 pub clear-bytes : (n : ℕ) (l : List ℕ) → Bits l → length l ≤ n * 8 → clearFrom (length l) (bytes n l)
 unfolding clearFrom
 clear-bytes n l b h = sym (rw (length-bytes n l, bits-bytes n l b h, take-append-seam l (replicate (n * 8 - length l) 0)))
+
+pub clear-packed : (n at : ℕ) (l s : List ℕ) → s ≡ bytes n l → at ≡ length l → Bits l → at ≤ n * 8 → clearFrom at s
+clear-packed n at l s e f b h = rw (e, f) (clear-bytes n l b (omega arith))
 
 -- Writing a string at the start of a slice.
 

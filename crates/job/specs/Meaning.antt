@@ -1,6 +1,6 @@
 -- Which job of the model a job by value is. Assumes nothing.
 use mathlib.Core.Path.{_≡_}
-use mathlib.Core.List.{List, [], _++_}
+use mathlib.Core.List.{List, _++_}
 use Prim.Native.Nat.{ℕ, _-_, _≤_}
 use lib.ListN.{length, take, replicate}
 use Rattle.model.specs.Job.{Job, Sound, diskCount, blockCount, refCount}

@@ -1,6 +1,6 @@
 -- Four facts determine a distance: where it begins, where it ends, that the block is referenced there, and nowhere before. Nothing else
 -- about `distance` is used. Assumes nothing.
-use mathlib.Core.Path.{_≡_, refl, sym, ap, _∙_}
+use mathlib.Core.Path.{_≡_, sym, ap, _∙_}
 use mathlib.Core.Logic.{_≢_}
 use mathlib.Core.List.{List, [], _∷_}
 use Prim.Native.Nat.{ℕ, zero, suc, _+_, _-_, _≤_, _<_}
@@ -95,7 +95,23 @@ module _ (refs : List ℕ) where
   pub distance-one : (p b c : ℕ) → distance refs p b ≡ distance refs p c → distance refs p b < length refs → b ≡ c
   distance-one p b c e h = sym (distance-hit p b h) ∙ ap (λ (k : ℕ). getD refs k 0) e ∙ distance-hit p c (omega arith)
 
+  -- a position passes on its distance over references to other blocks
+  pub distance-skip : (p q b : ℕ) → p ≤ q → q ≤ length refs → ((i : ℕ) → p ≤ i → i < q → getD refs i 0 ≢ b) → distance refs q b ≡ distance refs p b
+  distance-skip p q b h l none =
+      let from = distance-from q b in
+      distance-is p b (distance refs q b) (omega (arith, from)) (distance-to q b l) (distance-hit q b)
+      (λ i r s. by-test (leb q i) (λ e. distance-least q b i (leb-true q i e) s) (λ e. none i r (leb-false q i e)))
+
   -- the block of a reference has its distance there
-  pub distance-here : (p : ℕ) → p < length refs → distance refs p (getD refs p 0) ≡ p
-  distance-here p h =
-      le-antisymm (distance-before p (getD refs p 0) p (omega arith) refl) (distance-from p (getD refs p 0))
+  pub distance-here : (p b : ℕ) → getD refs p 0 ≡ b → p < length refs → distance refs p b ≡ p
+  distance-here p b e h = sym (distance-is p b p (omega arith) (omega arith) (λ _. e) (λ i r s. absurd (omega arith)))
+
+  -- and any other block keeps its own past it
+  pub distance-on : (p b : ℕ) → getD refs p 0 ≢ b → p < length refs → distance refs (suc p) b ≡ distance refs p b
+  distance-on p b n h =
+      distance-skip p (suc p) b (omega arith) (omega arith)
+      (λ i r s q. let e : i ≡ p = omega arith in n (ap (λ (k : ℕ). getD refs k 0) (sym e) ∙ q))
+
+  -- at the end every distance is never
+  pub distance-end : (b : ℕ) → distance refs (length refs) b ≡ length refs
+  distance-end b = le-antisymm (distance-to (length refs) b (omega arith)) (distance-from (length refs) b)

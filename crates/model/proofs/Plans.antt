@@ -81,7 +81,7 @@ choice-fits j s d c (over u v n f l p x) k = omega arith
 module _ (j : Job) (s : State) (d : ℕ) (ready : Ready j s) (due : s .next < refCount j) (on : diskOf j (refAt j (s .next)) ≡ d) (known : refAt j (s .next) < blockCount j) where
   -- it comes before all other blocks
   here : distanceNow j s (refAt j (s .next)) ≡ s .next
-  here = distance-here (j .refs) (s .next) due
+  here = distance-here (j .refs) (s .next) (refAt j (s .next)) refl due
 
   demanded : (u : ℕ) → distanceNow j s u ≤ s .next → u ≡ refAt j (s .next)
   demanded u l =
