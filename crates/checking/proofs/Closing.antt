@@ -3,12 +3,12 @@ use mathlib.Core.Path.{_≡_, sym, ap, _∙_}
 use mathlib.Core.Bool.{Bool, true, false, _&&_}
 use mathlib.Core.List.{List, [], _∷_, append-nil}
 use Prim.Native.Nat.{ℕ, zero, suc, _+_, _-_, _*_, _/_, _%_, _^_, _≤_, _<_}
-use native.Mathlib.Nat.{zero-add, sub-zero, suc-sub-suc, mod-one, not-suc-le-zero, zero-mul, suc-mul, div-add-mod'}
+use native.Mathlib.Nat.{zero-add, sub-zero, suc-sub-suc, mod-one, not-suc-le-zero, zero-mul, one-mul, suc-mul, div-add-mod'}
 use native.Mathlib.Omega.{arith}
 use lib.Arith.{mod-mul}
 use lib.Dec.{eqb, lit<}
 use lib.ListN.{length, drop, getD, length-drop, drop-of-length-le}
-use lib.Pow.{pow-pos}
+use lib.Pow.{pow-pos, shl-exact}
 use lib.Seq.{drop-cons, drop-drop}
 use borrow.Author.Tests.{lt-ltb, le-ltb, ne-eqb}
 use Rattle.bits.specs.Bits.{digits, bits}
@@ -49,6 +49,10 @@ last-bits at s e =
     ∙ sym (drop-drop (at % 8) (i * 8) (bits s))
     ∙ ap (drop (at % 8)) (drop-bytes i s ∙ ap bits one ∙ append-nil (digits 8 (getD s i 0)))
     ∙ drop-digits (at % 8) 8 (getD s i 0) (omega arith)
+
+-- a one shifted left by at most eight places
+pub one-shifted : (r : ℕ) → r ≤ 8 → 1 * 2 ^ r % 2 ^ 64 ≡ 2 ^ r
+one-shifted r h = shl-exact {a = 1} 1 r 64 (lit< tt) (omega arith) ∙ one-mul (2 ^ r)
 
 module _ (at : ℕ) (s : List ℕ) where
   -- a byte follows

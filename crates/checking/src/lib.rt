@@ -1,4 +1,13 @@
 // A sheet read and played action by action. Document 01, "Playing a round", and 9 to 16 of "Numbers of a refused call".
+use bits::Field;
+use job::Job;
+use playing::Buffers;
+ghost use mathlib.Core.Path.{_≡_};
+ghost use Prim.Native.Nat.{_≤_, _<_, _^_};
+ghost use lib.ListN.{drop};
+ghost use Rattle.bits.specs.Bits.{bits};
+ghost use Rattle.bits.specs.Reading.{refused};
+ghost use Rattle.checking.specs.Checking.{checkedOf, discardAt, actionAt, isClosed, endOf, played};
 
 // What the check gives: its number, 0 for a pass; the sheet's rounds, and its fetches on each disk. A refusal has all counts 0.
 pub struct Checked {
@@ -13,4 +22,127 @@ enum Act {
     Fetch(usize),
     Replace(usize, usize),
     Refused(usize),
+}
+
+fn refusal(number: usize) -> Checked
+    ensures { λ r. ⌜ r ≡ checkedOf (refused number) ⌝ }
+{
+    Checked {
+        number,
+        rounds: 0,
+        fetches: [0; 8],
+    }
+}
+
+// A byte as a number.
+fn wide(x: u8) -> usize
+    ensures { λ r. ⌜ r ≡ x ⌝ }
+{
+    x as usize
+}
+
+// What follows the fetched block x.
+fn discard(
+    sheet: &[u8],
+    at: usize,
+    blocks: usize,
+    disk: &[u8; 512],
+    resident: &[bool; 512],
+    d: usize,
+    x: usize,
+    full: bool,
+) -> Act
+    requires { ⌜ (at < 2 ^ 31) × (blocks ≤ 512) ⌝ }
+    ensures { λ r. ⌜ r ≡ discardAt (now (sheet .entry)) at blocks (now (disk .entry)) (now (resident .entry)) d x full ⌝ }
+{
+    let Field::Value(bit) = bits::read::field(sheet, at, 1) else {
+        return Act::Refused(9);
+    };
+    if bit == 0 {
+        if full {
+            return Act::Refused(13);
+        }
+        return Act::Fetch(x);
+    }
+    let Field::Value(z) = bits::read::field(sheet, at + 1, 9) else {
+        return Act::Refused(9);
+    };
+    if blocks <= z {
+        return Act::Refused(14);
+    }
+    if wide(disk[z]) != d {
+        return Act::Refused(14);
+    }
+    if resident[z] {
+        Act::Replace(x, z)
+    } else {
+        Act::Refused(14)
+    }
+}
+
+// The action of disk d at the bit `at`.
+fn action(
+    sheet: &[u8],
+    at: usize,
+    blocks: usize,
+    disk: &[u8; 512],
+    resident: &[bool; 512],
+    d: usize,
+    full: bool,
+) -> Act
+    requires { ⌜ (at < 2 ^ 30) × (blocks ≤ 512) ⌝ }
+    ensures { λ r. ⌜ r ≡ actionAt (now (sheet .entry)) at blocks (now (disk .entry)) (now (resident .entry)) d full ⌝ }
+{
+    let Field::Value(bit) = bits::read::field(sheet, at, 1) else {
+        return Act::Refused(9);
+    };
+    if bit == 0 {
+        return Act::Idle;
+    }
+    let Field::Value(x) = bits::read::field(sheet, at + 1, 9) else {
+        return Act::Refused(9);
+    };
+    if blocks <= x {
+        return Act::Refused(11);
+    }
+    if wide(disk[x]) != d {
+        return Act::Refused(11);
+    }
+    if resident[x] {
+        return Act::Refused(12);
+    }
+    discard(sheet, at + 10, blocks, disk, resident, d, x, full)
+}
+
+// The end: fewer than eight bits are left after the bit `at`, all zero.
+fn closed(sheet: &[u8], at: usize) -> bool
+    requires { ⌜ at < 2 ^ 32 ⌝ }
+    ensures { λ r. ⌜ r ≡ isClosed (drop at (bits (now (sheet .entry)))) ⌝ }
+{
+    if (at + 7) / 8 < sheet.len() {
+        return false;
+    }
+    if at / 8 < sheet.len() {
+        return (sheet[at / 8] as usize) % (1 << (8 - at % 8)) == 0;
+    }
+    true
+}
+
+// What follows the last round; `left` says that references are left.
+fn ending(sheet: &[u8], at: usize, left: bool, rounds: usize, fetches: [u16; 8]) -> Checked
+    requires { ⌜ at < 2 ^ 32 ⌝ }
+    ensures { λ r. ⌜ r ≡ checkedOf (endOf left rounds fetches (drop at (bits (now (sheet .entry))))) ⌝ }
+{
+    if left {
+        return refusal(15);
+    }
+    if closed(sheet, at) {
+        Checked {
+            number: 0,
+            rounds,
+            fetches,
+        }
+    } else {
+        refusal(16)
+    }
 }

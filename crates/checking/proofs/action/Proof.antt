@@ -1,0 +1,127 @@
+-- `action` meets its contract: each answer rewrites with the fields and tests that led there. Assumes nothing.
+use mathlib.Core.Path.{_≡_, sym, _∙_}
+use Prim.Native.Nat.{_+_}
+use native.Mathlib.Omega.{arith}
+use borrow.Author.Needs.{needs}
+use borrow.Author.Tests.{le-leb, lt-leb, eq-eqb, ne-eqb}
+use denote.Ref.{now}
+use Rattle.bits.specs.Fields.{fieldAt}
+use Rattle.bits.specs.declared.Field.the-variants.{Value}
+use Rattle.checking.specs.Checking.{actionAt}
+use Rattle.checking.proofs.action.Statement.{statement}
+use Rattle.checking.proofs.action.Tie as tie
+
+-- the fields that were read
+bit-read : (c : tie.After-known-told) → fieldAt (now (c .before .before .before .before .before .args .sheet)) (c .before .before .before .before .before .args .at) 1 ≡ Value (c .before .bit .given .0 .0)
+bit-read c = sym (c .before .before .before .field .ensures) ∙ c .before .bit .given .1
+
+block-read : (c : tie.After-known-told2) → fieldAt (now (c .before .before .before .before .before .before .before .before .before .before .args .sheet)) (c .before .before .before .before .before .before .before .before .before .before .args .at + 1) 9 ≡ Value (c .before .x .given .0 .0)
+block-read c = sym (c .before .before .before .field2 .ensures) ∙ c .before .x .given .1
+
+field-requires : tie.Need-field-requires
+field-requires c κs = omega arith
+
+enum-known-bit : tie.Need-enum-known-bit
+enum-known-bit c = search needs
+
+enum-told : tie.Need-enum-told
+enum-told c = search needs
+
+returns : tie.Need-returns
+unfolding actionAt
+returns c = rw (← c .before .before .field .ensures, c .enum-told .given .1)
+
+returns-2 : tie.Need-returns-2
+unfolding actionAt
+returns-2 c = rw (bit-read (c .before), eq-eqb _ _ (c .if1 .taken))
+
+add-field : tie.Need-add-field
+add-field c = omega arith
+
+field-requires-2 : tie.Need-field-requires-2
+field-requires-2 c κs = omega arith
+
+enum-known-x : tie.Need-enum-known-x
+enum-known-x c = search needs
+
+enum-told-2 : tie.Need-enum-told-2
+enum-told-2 c = search needs
+
+returns-3 : tie.Need-returns-3
+unfolding actionAt
+returns-3 c = rw (bit-read (c .before .before .before .before), ne-eqb _ _ (c .before .before .before .if1 .left), ← c .before .before .field2 .ensures, c .enum-told2 .given .1)
+
+returns-4 : tie.Need-returns-4
+unfolding actionAt
+returns-4 c = rw (bit-read (c .before .before .before .before .before .before), ne-eqb _ _ (c .before .before .before .before .before .if1 .left), block-read (c .before), le-leb _ _ (c .if2 .taken))
+
+element-copy-out-wide : tie.Need-element-copy-out-wide
+element-copy-out-wide c = search needs
+
+wide-requires : tie.Need-wide-requires
+wide-requires c κs = search needs
+
+returns-5 : tie.Need-returns-5
+unfolding actionAt
+returns-5 c =
+    rw (bit-read (c .before .before .before .before .before .before .before .before .before), ne-eqb _ _ (c .before .before .before .before .before .before .before .before .if1 .left), block-read (c .before .before .before .before), lt-leb _ _ (c .before .before .before .if2 .left), ← c .before .wide .ensures, ne-eqb _ _ (c .if3 .taken))
+
+element-copy-out-if4 : tie.Need-element-copy-out-if4
+element-copy-out-if4 c = search needs
+
+returns-6 : tie.Need-returns-6
+unfolding actionAt
+returns-6 c =
+    rw (
+      bit-read (c .before .before .before .before .before .before .before .before .before .before .before),
+      ne-eqb _ _ (c .before .before .before .before .before .before .before .before .before .before .if1 .left),
+      block-read (c .before .before .before .before .before .before),
+      lt-leb _ _ (c .before .before .before .before .before .if2 .left),
+      ← c .before .before .before .wide .ensures,
+      eq-eqb _ _ (c .before .before .if3 .left),
+      c .if4 .taken,
+    )
+
+add-discard : tie.Need-add-discard
+add-discard c = omega arith
+
+discard-requires : tie.Need-discard-requires
+discard-requires c κs = omega arith
+
+returns-7 : tie.Need-returns-7
+unfolding actionAt
+returns-7 c =
+    rw (
+      bit-read (c .before .before .before .before .before .before .before .before .before .before .before .before),
+      ne-eqb _ _ (c .before .before .before .before .before .before .before .before .before .before .before .if1 .left),
+      block-read (c .before .before .before .before .before .before .before),
+      lt-leb _ _ (c .before .before .before .before .before .before .if2 .left),
+      ← c .before .before .before .before .wide .ensures,
+      eq-eqb _ _ (c .before .before .before .if3 .left),
+      c .before .if4 .left,
+    )
+    (c .discard .ensures)
+
+pub action-spec : {M : Type 1} → statement M
+action-spec =
+    tie.close
+    (tie.spec
+    field-requires
+    enum-known-bit
+    enum-told
+    returns
+    returns-2
+    add-field
+    field-requires-2
+    enum-known-x
+    enum-told-2
+    returns-3
+    returns-4
+    element-copy-out-wide
+    wide-requires
+    returns-5
+    element-copy-out-if4
+    returns-6
+    add-discard
+    discard-requires
+    returns-7)
