@@ -4,11 +4,12 @@ use mathlib.Core.Path.{_≡_, refl, sym, ap, _∙_}
 use mathlib.Core.Logic.{_≢_}
 use mathlib.Core.Bool.{Bool, true, false, cond, _&&_}
 use mathlib.Core.List.{List, [], _∷_}
-use Prim.Native.Nat.{ℕ, zero, suc, _+_, _<_}
+use Prim.Native.Nat.{ℕ, zero, suc, _+_, _≤_, _<_}
 use native.Mathlib.Omega.{arith}
 use lib.Dec.{ltb}
 use lib.ListN.{length, getD, drop, replicate, length-set, getD-replicate}
 use lib.Seq.{getD-set-same, getD-set-other}
+use borrow.Author.Tests.{lt-ltb, le-ltb}
 use Rattle.bits.specs.Bits.{bits}
 use Rattle.bits.specs.Reading.{Answer, given, refused, Read, got, stop, Reader, bind, _>>=_, _>>_, give, field, refuseIf, allZero, closing, answer, readAll}
 use Rattle.bits.specs.Fields.{fieldAt, readOf}
@@ -202,7 +203,7 @@ rest-goes j r s =
     ∙ sym (rounds-played j r r (start j) (replicate 8 0) l)
 
 -- The answer to a sheet whose round count was read.
-unfoldable pub answered : Job → List ℕ → Field → Answer Counts
+answered : Job → List ℕ → Field → Answer Counts
 unfolding played
 answered j s (Value r) = cond (ltb 2048 r) (refused 10) (played j r s)
 answered j s Ended = refused 9
@@ -213,10 +214,24 @@ unfolding goOn readOf _>>_ bind refuseIf answered
 count-goes j s (Value r) = by-test (ltb 2048 r) (λ t. rw t) (λ t. rw t (rest-goes j r s))
 count-goes j s Ended = refl
 
-pub check-answers : (j : Job) (s : List ℕ) → passOf (scheduleRead j s) ≡ answered j s (fieldAt s 0 12)
+check-answers : (j : Job) (s : List ℕ) → passOf (scheduleRead j s) ≡ answered j s (fieldAt s 0 12)
 unfolding scheduleRead readAll sheetReader _>>=_ roundsRest
 check-answers j s =
     pass-goes (sheetReader j (start j) (bits s))
     ∙ goOn-bind (field 9 12 (bits s)) _ passed
     ∙ ap (λ (x : Read ℕ). goOn x (λ r rest. goOn ((refuseIf 10 (ltb 2048 r) >> roundsRest j r) rest) passed)) (field-reads 9 12 0 s (omega arith))
     ∙ count-goes j s (fieldAt s 0 12)
+
+-- The three ways from the round count on.
+module _ (j : Job) (s : List ℕ) where
+  pub check-ended : fieldAt s 0 12 ≡ Ended → passOf (scheduleRead j s) ≡ refused 9
+  unfolding answered
+  check-ended e = check-answers j s ∙ ap (answered j s) e
+
+  pub check-long : (r : ℕ) → fieldAt s 0 12 ≡ Value r → 2048 < r → passOf (scheduleRead j s) ≡ refused 10
+  unfolding answered
+  check-long r e l = check-answers j s ∙ ap (answered j s) e ∙ rw (lt-ltb 2048 r l)
+
+  pub check-plays : (r : ℕ) → fieldAt s 0 12 ≡ Value r → r ≤ 2048 → passOf (scheduleRead j s) ≡ played j r s
+  unfolding answered
+  check-plays r e l = check-answers j s ∙ ap (answered j s) e ∙ rw (le-ltb 2048 r l)

@@ -1,3 +1,4 @@
 pub mod Actions
 pub mod Closing
 pub mod Laws
+pub mod Rounds

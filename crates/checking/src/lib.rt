@@ -7,6 +7,9 @@ ghost use Prim.Native.Nat.{_≤_, _<_, _^_};
 ghost use lib.ListN.{drop};
 ghost use Rattle.bits.specs.Bits.{bits};
 ghost use Rattle.bits.specs.Reading.{refused};
+ghost use Rattle.job.specs.Meaning.{Fits, jobOf};
+ghost use Rattle.model.specs.Sheet.{scheduleRead};
+ghost use Rattle.model.specs.Calls.{passOf};
 ghost use Rattle.checking.specs.Checking.{checkedOf, discardAt, actionAt, isClosed, endOf, played};
 
 // What the check gives: its number, 0 for a pass; the sheet's rounds, and its fetches on each disk. A refusal has all counts 0.
@@ -145,4 +148,59 @@ fn ending(sheet: &[u8], at: usize, left: bool, rounds: usize, fetches: [u16; 8])
     } else {
         refusal(16)
     }
+}
+
+// The rounds of a sheet, played.
+fn play(job: Job, sheet: &[u8], rounds: usize) -> Checked
+    requires { ⌜ Fits job × (rounds ≤ 2048) ⌝ }
+    ensures { λ r. ⌜ r ≡ checkedOf (played (jobOf job) rounds (now (sheet .entry))) ⌝ }
+{
+    let mut b = Buffers::empty();
+    let mut fetches = [0u16; 8];
+    let mut at = 12;
+    let mut k = 0;
+    'rounds: while k < rounds {
+        let mut d = 0;
+        while d < job.disks {
+            let full = job.slots[d] <= b.held[d];
+            match action(sheet, at, job.blocks, &job.disk, &b.resident, d, full) {
+                Act::Idle => at += 1,
+                Act::Fetch(x) => {
+                    b = b.fetch(x, d);
+                    fetches[d] += 1;
+                    at += 11;
+                }
+                Act::Replace(x, z) => {
+                    b = b.replace(z, x, d);
+                    fetches[d] += 1;
+                    at += 20;
+                }
+                Act::Refused(n) => return refusal(n),
+            }
+            d += 1;
+        }
+        k += 1;
+        'reading: while b.next < job.count {
+            let next = b.next;
+            if !b.resident[job.refs[next] as usize] {
+                continue 'rounds;
+            }
+            b = b.consume();
+        }
+    }
+    ending(sheet, at, b.next < job.count, rounds, fetches)
+}
+
+// The check of a sheet for a job.
+pub fn check(job: Job, sheet: &[u8]) -> Checked
+    requires { ⌜ Fits job ⌝ }
+    ensures { λ r. ⌜ r ≡ checkedOf (passOf (scheduleRead (jobOf job) (now (sheet .entry)))) ⌝ }
+{
+    let Field::Value(rounds) = bits::read::field(sheet, 0, 12) else {
+        return refusal(9);
+    };
+    if 2048 < rounds {
+        return refusal(10);
+    }
+    play(job, sheet, rounds)
 }

@@ -1,0 +1,316 @@
+-- What is known while the rounds of a sheet are played: the answer is what the rest of the sheet gives from here. Each step of the player keeps
+-- it. Assumes nothing.
+use mathlib.Core.Path.{_≡_, refl, sym, ap, _∙_, subst₃}
+use mathlib.Core.Bool.{Bool, true, false}
+use mathlib.Core.List.{List}
+use Prim.Native.Nat.{ℕ, zero, suc, _+_, _-_, _*_, _≤_, _<_}
+use native.Mathlib.Numerals.{add-one}
+use native.Mathlib.Omega.{arith}
+use lib.Dec.{ltb, leb, eqb}
+use lib.ListN.{length, getD, set, drop, replicate, length-set, drop-of-length-le}
+use lib.Seq.{getD-set-same, getD-set-other, drop-cons}
+use borrow.Author.Tests.{eqb-true, eqb-false}
+use Rattle.bits.specs.Bits.{bits}
+use Rattle.bits.specs.Reading.{Answer, refused, got}
+use Rattle.bits.proofs.Logic.{by-test}
+use Rattle.bits.proofs.Bits.{bits-are, drop-bits}
+use Rattle.job.specs.Meaning.{jobOf, Fits}
+use Rattle.job.specs.declared.Job.{Job as Stored}
+use Rattle.job.proofs.Laws.{disks-are, blocks-are, refs-are, slots-at, disk-at, ref-at}
+use Rattle.model.specs.Job.{Job, diskCount, blockCount, slotsOf}
+use Rattle.model.specs.Playing.{Action, fetch, replace, State, start, noneResident, isResident, load, act, consumed}
+use Rattle.model.specs.Sheet.{actionReader}
+use Rattle.model.specs.Valid.{Block, Legal}
+use Rattle.model.specs.Calls.{Counts}
+use Rattle.model.proofs.Sheets.{Room}
+use Rattle.playing.specs.declared.Buffers.{Buffers}
+use Rattle.playing.specs.Playing.{emptyBuffers, fetchInto, replaceIn, consumeOne, Holds}
+use Rattle.playing.proofs.Laws.{holds-start, holds-same, holds-some, holds-fetch, holds-replace, holds-consume}
+use Rattle.checking.specs.Checking.{actionAt, counted, goOn, endOf, disksFrom, afterReading, roundsFrom, played}
+use Rattle.checking.specs.declared.Act.{Act}
+use Rattle.checking.specs.declared.Act.the-variants.{Idle, Fetch, Replace, Refused}
+use Rattle.checking.proofs.Actions.{actRead, action-reads, action-legal}
+
+-- The state of the model that the buffers hold in round k.
+abbrev pub stateOf : Buffers → ℕ → State
+stateOf b k = record { resident = b .resident; next = b .next; round = k }
+
+-- The action of disk d at the bit `at`.
+abbrev pub actionHere : Stored → List ℕ → Buffers → ℕ → ℕ → Act
+actionHere c s b at d = actionAt s at (c .blocks) (c .disk) (b .resident) d (leb (getD (c .slots) d 0) (getD (b .held) d 0))
+
+-- What follows a round.
+abbrev pub afterRound : Job → ℕ → ℕ → ℕ → ℕ → List Bool → List ℕ → List ℕ → Answer Counts
+afterRound j rounds left next round = λ marks. roundsFrom j rounds left (afterReading j marks next round)
+
+-- After at most n actions: the buffers hold a state of the job, and the position and the counts are within bounds.
+pub record Kept (c : Stored) (b : Buffers) (f : List ℕ) (at n : ℕ) : Type 0 where
+  pub holds : Holds (jobOf c) b (stateOf b 0)
+  pub near : at ≤ 12 + 20 * n
+  pub long : length f ≡ 8
+  pub few : (e : ℕ) → getD f e 0 ≤ n
+
+-- Before round k; within it, before disk d; and at its end, while references are read. `s` is the sheet, `rounds` its round count.
+pub record BeforeRound (c : Stored) (s : List ℕ) (rounds : ℕ) (b : Buffers) (f : List ℕ) (at k : ℕ) : Type 0 where
+  pub within : k ≤ rounds
+  pub kept : Kept c b f at (8 * k)
+  pub answer : roundsFrom (jobOf c) rounds (rounds - k) (stateOf b k) f (drop at (bits s)) ≡ played (jobOf c) rounds s
+
+pub record BeforeDisk (c : Stored) (s : List ℕ) (rounds k : ℕ) (b : Buffers) (f : List ℕ) (at d : ℕ) : Type 0 where
+  pub within : d ≤ c .disks
+  pub kept : Kept c b f at (8 * k + d)
+  pub answer : disksFrom (jobOf c) (afterRound (jobOf c) rounds (rounds - suc k) (b .next) (suc k)) (c .disks - d) (b .resident) f d (drop at (bits s))
+      ≡ played (jobOf c) rounds s
+
+pub record AtReading (c : Stored) (s : List ℕ) (rounds : ℕ) (f : List ℕ) (at k : ℕ) (b : Buffers) : Type 0 where
+  pub within : k ≤ rounds
+  pub kept : Kept c b f at (8 * k)
+  pub answer : roundsFrom (jobOf c) rounds (rounds - k) (afterReading (jobOf c) (b .resident) (b .next) k) f (drop at (bits s)) ≡ played (jobOf c) rounds s
+
+-- more actions than there were
+kept-more : (c : Stored) (b : Buffers) (f : List ℕ) (at m n : ℕ) → m ≤ n → Kept c b f at m → Kept c b f at n
+kept-more c b f at m n h p = record {
+  holds = p .holds;
+  near = omega arith;
+  long = p .long;
+  few = λ e. (let q = p .few e in omega (arith, q));
+}
+
+-- a reference is a block
+pub ref-below : (c : Stored) → Fits c → (i : ℕ) → i < c .count → getD (c .refs) i 0 < 512
+ref-below c h i l =
+    let n = refs-are c h in
+    let b = blocks-are c h in
+    let few = h .fewBlocks in
+    let known = h .sound .toBlocks i (omega (arith, n)) in
+    let same = ref-at c h i l in
+    omega (arith, b, few, known, same)
+
+-- one more fetch of disk d
+few-more : (f : List ℕ) (d n : ℕ) → d < length f → ((e : ℕ) → getD f e 0 ≤ n) → (e : ℕ) → getD (set f d (getD f d 0 + 1)) e 0 ≤ suc n
+few-more f d n p h e =
+    by-test (eqb e d)
+    (λ y. let same = eqb-true e d y in
+    let q = h d in
+    rw (same, getD-set-same f d (getD f d 0 + 1) 0 p) (omega (arith, q)))
+    (λ y. let q = h e in rw (getD-set-other f d e (getD f d 0 + 1) 0 (eqb-false e d y)) (omega (arith, q)))
+
+-- the next reference is consumed, or is the first that is not
+read-on : (marks : List Bool) (refs : List ℕ) (q : ℕ) → q < length refs → isResident marks (getD refs q 0) ≡ true
+    → consumed marks (drop q refs) ≡ suc (consumed marks (drop (suc q) refs))
+unfolding consumed
+read-on marks refs q l m = rw (drop-cons refs q 0 l, m)
+
+read-missing : (marks : List Bool) (refs : List ℕ) (q : ℕ) → q < length refs → isResident marks (getD refs q 0) ≡ false → consumed marks (drop q refs) ≡ 0
+unfolding consumed
+read-missing marks refs q l m = rw (drop-cons refs q 0 l, m)
+
+read-none : (marks : List Bool) (refs : List ℕ) (q : ℕ) → length refs ≤ q → consumed marks (drop q refs) ≡ 0
+unfolding consumed
+read-none marks refs q l = rw (drop-of-length-le refs {i = q} l)
+
+zeros-at : (n e : ℕ) → _≡_ {A = ℕ} (getD (replicate n 0) e 0) 0
+zeros-at zero e = refl
+zeros-at (suc n) zero = refl
+zeros-at (suc n) (suc e) = zeros-at n e
+
+module _ (c : Stored) (h : Fits c) (s : List ℕ) (rounds : ℕ) where
+  -- at the start
+  pub round-first : BeforeRound c s rounds emptyBuffers (replicate 8 0) 12 0
+  unfolding played start noneResident emptyBuffers
+  round-first = record {
+    within = omega arith;
+    kept = record {
+      holds = holds-start (jobOf c) (let e = disks-are c h in let f = h .fewDisks in omega (arith, e, f));
+      near = omega arith;
+      long = refl;
+      few = λ e. (let z = zeros-at 8 e in omega (arith, z));
+    };
+    answer = ap (λ (n : ℕ). roundsFrom (jobOf c) rounds n (start (jobOf c)) (replicate 8 0) (drop 12 (bits s))) (let e : rounds - 0 ≡ rounds = omega arith in e);
+  }
+
+  -- a round begins
+  pub disk-first : (b : Buffers) (f : List ℕ) (at k : ℕ) → BeforeRound c s rounds b f at k → k < rounds → BeforeDisk c s rounds k b f at 0
+  unfolding roundsFrom
+  disk-first b f at k p l =
+      let left : rounds - k ≡ suc (rounds - suc k) = omega arith in
+      let all : diskCount (jobOf c) ≡ c .disks - 0 = disks-are c h ∙ (let e : c .disks ≡ c .disks - 0 = omega arith in e) in
+      record {
+        within = omega arith;
+        kept = kept-more c b f at (8 * k) (8 * k + 0) (omega arith) (p .kept);
+        answer = rw (← all) (rw left at (p .answer));
+      }
+
+  module _ (k : ℕ) (b : Buffers) (f : List ℕ) (at d : ℕ) (p : BeforeDisk c s rounds k b f at d) (l : d < c .disks) where
+    held : Holds (jobOf c) b (stateOf b 0)
+    held = p .kept .holds
+
+    fewDisks : diskCount (jobOf c) ≤ 8
+    fewDisks = let e = disks-are c h in let n = h .fewDisks in omega (arith, e, n)
+
+    fewBlocks : blockCount (jobOf c) ≤ 512
+    fewBlocks = let e = blocks-are c h in let n = h .fewBlocks in omega (arith, e, n)
+
+    here : d < diskCount (jobOf c)
+    here = let e = disks-are c h in omega (arith, e)
+
+    -- the reader of the model reads the same action
+    reads : (a : Act) → a ≡ actionHere c s b at d → actionReader (jobOf c) (b .resident) d (drop at (bits s)) ≡ actRead s at a
+    reads a e =
+        action-reads (jobOf c) (b .resident) d (c .blocks) (c .disk) (leb (getD (c .slots) d 0) (getD (b .held) d 0))
+        (record {
+          allBlocks = blocks-are c h;
+          diskAt = disk-at c h;
+          taken = rw (slots-at c h d l, held .loads d here);
+        })
+        s at
+        ∙ ap (actRead s at) (sym e)
+
+    legal : (a : Action) (rest : List ℕ) → actionReader (jobOf c) (b .resident) d (drop at (bits s)) ≡ got a rest
+        → Legal (jobOf c) (b .resident) d a × Room (jobOf c) (b .resident) d a
+    legal a rest e = action-legal (jobOf c) (b .resident) d (drop at (bits s)) a rest (drop-bits at (bits s) (bits-are s)) e
+
+    -- what the rest gives after it
+    goes : (a : Act) → a ≡ actionHere c s b at d
+        → goOn (actRead s at a) (λ x rest. disksFrom (jobOf c) (afterRound (jobOf c) rounds (rounds - suc k) (b .next) (suc k)) (c .disks - suc d)
+        (act (b .resident) x) (counted f d x) (suc d) rest)
+        ≡ played (jobOf c) rounds s
+    unfolding disksFrom
+    goes a e =
+        let left : c .disks - d ≡ suc (c .disks - suc d) = omega arith in
+        rw (← reads a e) (rw left at (p .answer))
+
+    -- a refusal
+    pub disk-refused : (n : ℕ) → Refused n ≡ actionHere c s b at d → refused n ≡ played (jobOf c) rounds s
+    unfolding goOn actRead
+    disk-refused n e = goes (Refused n) e
+
+    -- nothing is fetched
+    pub disk-idle : Idle ≡ actionHere c s b at d → BeforeDisk c s rounds k b f (at + 1) (d + 1)
+    unfolding goOn actRead act counted
+    disk-idle e =
+        rw (add-one d) (record {
+          within = l;
+          kept = record {
+            holds = held;
+            near = (let q = p .kept .near in omega (arith, q));
+            long = p .kept .long;
+            few = λ e. (let q = p .kept .few e in omega (arith, q));
+          };
+          answer = goes Idle e;
+        })
+
+    -- a block is fetched
+    module _ (x : ℕ) (e : Fetch x ≡ actionHere c s b at d) where
+      into : Block (jobOf c) (b .resident) d x false × (load (jobOf c) (b .resident) d < slotsOf (jobOf c) d)
+      unfolding actRead Legal Room
+      into = legal (fetch x) (drop (at + 11) (bits s)) (reads (Fetch x) e)
+
+      pub fetch-fits : (x < 512) × (d < 8) × (getD (b .held) d 0 < 255)
+      fetch-fits =
+          let q = into .0 .known in
+          let r = into .1 in
+          let loads = held .loads d here in
+          let most = h .sound .fewSlots d here in
+          (omega (arith, q, fewBlocks), omega (arith, here, fewDisks), omega (arith, r, loads, most))
+
+      pub disk-fetch : BeforeDisk c s rounds k (fetchInto b x d) (set f d (getD f d 0 + 1)) (at + 11) (d + 1)
+      unfolding goOn actRead act counted fetchInto
+      disk-fetch =
+          rw (add-one d) (record {
+            within = l;
+            kept = record {
+              holds = holds-fetch (jobOf c) b (stateOf b 0) held fewBlocks fewDisks d here x (into .0);
+              near = (let q = p .kept .near in omega (arith, q));
+              long = length-set f d _ ∙ p .kept .long;
+              few = λ i. (let q = few-more f d (8 * k + d) (let n = p .kept .long in omega (arith, n, here, fewDisks)) (p .kept .few) i in omega (arith, q));
+            };
+            answer = goes (Fetch x) e;
+          })
+
+    -- a block takes the place of another
+    module _ (x z : ℕ) (e : Replace x z ≡ actionHere c s b at d) where
+      both : Block (jobOf c) (b .resident) d x false × Block (jobOf c) (b .resident) d z true
+      unfolding actRead Legal Room
+      both = legal (replace x z) (drop (at + 20) (bits s)) (reads (Replace x z) e) .0
+
+      pub replace-fits : (z < 512) × (x < 512) × (d < 8) × (1 ≤ getD (b .held) d 0)
+      replace-fits =
+          let q = both .0 .known in
+          let r = both .1 .known in
+          (omega (arith, r, fewBlocks), omega (arith, q, fewBlocks), omega (arith, here, fewDisks), holds-some (jobOf c) b (stateOf b 0) held d here z (both .1))
+
+      pub disk-replace : BeforeDisk c s rounds k (replaceIn b z x d) (set f d (getD f d 0 + 1)) (at + 20) (d + 1)
+      unfolding goOn actRead act counted replaceIn
+      disk-replace =
+          rw (add-one d) (record {
+            within = l;
+            kept = record {
+              holds = holds-replace (jobOf c) b (stateOf b 0) held fewBlocks fewDisks d here x z (both .0) (both .1);
+              near = (let q = p .kept .near in omega (arith, q));
+              long = length-set f d _ ∙ p .kept .long;
+              few = λ i. (let q = few-more f d (8 * k + d) (let n = p .kept .long in omega (arith, n, here, fewDisks)) (p .kept .few) i in omega (arith, q));
+            };
+            answer = goes (Replace x z) e;
+          })
+
+  -- the same disk, with values that are known by equations
+  pub disk-same : (k : ℕ) {b b′ : Buffers} {f f′ : List ℕ} {at at′ d : ℕ} → b ≡ b′ → f ≡ f′ → at ≡ at′ → BeforeDisk c s rounds k b′ f′ at′ d
+      → BeforeDisk c s rounds k b f at d
+  disk-same k {d = d} p q r t = subst₃ (λ (b : Buffers) (f : List ℕ) (at : ℕ). BeforeDisk c s rounds k b f at d) (sym p) (sym q) (sym r) t
+
+  -- all disks have acted
+  pub reading-first : (k : ℕ) (b : Buffers) (f : List ℕ) (at d : ℕ) → BeforeDisk c s rounds k b f at d → c .disks ≤ d → k < rounds
+      → AtReading c s rounds f at (k + 1) b
+  unfolding disksFrom
+  reading-first k b f at d p l q =
+      let none : c .disks - d ≡ 0 = omega arith in
+      let few = h .fewDisks in
+      let most = p .within in
+      rw (add-one k) (record {
+        within = q;
+        kept = kept-more c b f at (8 * k + d) (8 * suc k) (omega (arith, few, most)) (p .kept);
+        answer = rw none at (p .answer);
+      })
+
+  module _ (f : List ℕ) (at k : ℕ) (b : Buffers) (p : AtReading c s rounds f at k b) where
+    -- one reference more
+    pub reading-more : b .next < c .count → isResident (b .resident) (getD (c .refs) (b .next) 0) ≡ true → AtReading c s rounds f at k (consumeOne b)
+    unfolding consumeOne
+    reading-more l m =
+        let n = refs-are c h in
+        let one = read-on (b .resident) (jobOf c .refs) (b .next) (omega (arith, n)) (rw (ref-at c h (b .next) l) m) in
+        let same : b .next + consumed (b .resident) (drop (b .next) (jobOf c .refs)) ≡ b .next + 1 + consumed (b .resident) (drop (b .next + 1) (jobOf c .refs)) =
+        rw (add-one (b .next)) (omega (arith, one)) in
+        record {
+          within = p .within;
+          kept = record {
+            holds = holds-same (jobOf c) (consumeOne b) _ _ refl (sym (add-one (b .next))) (holds-consume (jobOf c) b (stateOf b 0) (p .kept .holds));
+            near = p .kept .near;
+            long = p .kept .long;
+            few = p .kept .few;
+          };
+          answer = rw (← same) (p .answer);
+        }
+
+    -- the reading stops
+    stops : consumed (b .resident) (drop (b .next) (jobOf c .refs)) ≡ 0 → BeforeRound c s rounds b f at k
+    stops e =
+        let same : b .next + consumed (b .resident) (drop (b .next) (jobOf c .refs)) ≡ b .next = omega (arith, e) in
+        record { within = p .within; kept = p .kept; answer = rw same at (p .answer) }
+
+    pub reading-missing : b .next < c .count → isResident (b .resident) (getD (c .refs) (b .next) 0) ≡ false → BeforeRound c s rounds b f at k
+    reading-missing l m =
+        let n = refs-are c h in
+        stops (read-missing (b .resident) (jobOf c .refs) (b .next) (omega (arith, n)) (rw (ref-at c h (b .next) l) m))
+
+    pub reading-over : c .count ≤ b .next → BeforeRound c s rounds b f at k
+    reading-over l = let n = refs-are c h in stops (read-none (b .resident) (jobOf c .refs) (b .next) (omega (arith, n)))
+
+  -- all rounds are played
+  pub rounds-over : (b : Buffers) (f : List ℕ) (at k : ℕ) → BeforeRound c s rounds b f at k → rounds ≤ k
+      → endOf (ltb (b .next) (c .count)) rounds f (drop at (bits s)) ≡ played (jobOf c) rounds s
+  unfolding roundsFrom
+  rounds-over b f at k p l =
+      let none : rounds - k ≡ 0 = omega arith in
+      ap (λ (n : ℕ). endOf (ltb (b .next) n) rounds f (drop at (bits s))) (sym (refs-are c h)) ∙ (rw none at (p .answer))
