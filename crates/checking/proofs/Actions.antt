@@ -81,7 +81,8 @@ module _ (j : Job) (marks : List Bool) (d blocks : ℕ) (disk : List ℕ) (full 
         rw (h .taken, after) (by-test full (λ t. rw t) (λ t. rw t))
     discard-reads (Value (suc k)) =
         rw (ne-eqb (suc k) 0 (omega arith))
-        (field-then 9 9 (at + 1) s (λ z. refuseIf 14 (not (holds j marks d z)) >> give (replace x z)) (omega arith) ∙ replace-reads (fieldAt s (at + 1) 9))
+        (field-then 9 9 (at + 1) s (λ z. refuseIf 14 (not (holds j marks d z)) >> give (replace x z)) (omega arith)
+        ∙ replace-reads (fieldAt s (at + 1) 9))
     discard-reads Ended = refl
 
   module _ (s : List ℕ) (at : ℕ) where
@@ -99,7 +100,8 @@ module _ (j : Job) (marks : List Bool) (d blocks : ℕ) (disk : List ℕ) (full 
         (λ t. rw t)
         (λ t. rw t (by-test (isResident marks x)
         (λ u. rw u)
-        (λ u. rw u (field-then 9 1 (at + 10) s (discardReader j marks d x) (omega arith) ∙ discard-reads s at (at + 10) x refl (fieldAt s (at + 10) 1))))))
+        (λ u. rw u (field-then 9 1 (at + 10) s (discardReader j marks d x) (omega arith)
+        ∙ discard-reads s at (at + 10) x refl (fieldAt s (at + 10) 1))))))
     fetched-reads Ended = refl
 
     -- the bit before it
@@ -110,7 +112,8 @@ module _ (j : Job) (marks : List Bool) (d blocks : ℕ) (disk : List ℕ) (full 
         (cond (isResident marks x) (Refused 12) (discardAt s (at + 10) blocks disk marks d x full))))
     unfolding bind readOf give fetchReader actRead
     action-goes (Value zero) = refl
-    action-goes (Value (suc k)) = rw (ne-eqb (suc k) 0 (omega arith)) (field-then 9 9 (at + 1) s _ (omega arith) ∙ fetched-reads (fieldAt s (at + 1) 9))
+    action-goes (Value (suc k)) =
+        rw (ne-eqb (suc k) 0 (omega arith)) (field-then 9 9 (at + 1) s _ (omega arith) ∙ fetched-reads (fieldAt s (at + 1) 9))
     action-goes Ended = refl
 
     -- Where the reader stands at the bit `at`, it reads the action at `at`.
@@ -123,5 +126,7 @@ pub action-legal : (j : Job) (marks : List Bool) (d : ℕ) (l : List ℕ) (a : A
     → Legal j marks d a × Room j marks d a
 unfolding LegalAll RoomAll roundReader _>>=_ bind give
 action-legal j marks d l a rest b e =
-    let r = round-read j 1 marks d l (a ∷ []) rest b (ap (λ (x : Read Action). bind x (λ y. roundReader j 0 (act marks y) (suc d) >>= λ more. give (y ∷ more))) e) in
+    let one : roundReader j 1 marks d l ≡ got (a ∷ []) rest =
+    ap (λ (x : Read Action). bind x (λ y. roundReader j 0 (act marks y) (suc d) >>= λ more. give (y ∷ more))) e in
+    let r = round-read j 1 marks d l (a ∷ []) rest b one in
     (r .legal .0, r .room .0)

@@ -44,7 +44,8 @@ last-bits : (at : ℕ) (s : List ℕ) → at / 8 + 1 ≡ length s → drop at (b
 unfolding bits
 last-bits at s e =
     let i = at / 8 in
-    let one : drop i s ≡ getD s i 0 ∷ [] = drop-cons s i 0 (omega arith) ∙ ap (λ (l : List ℕ). getD s i 0 ∷ l) (drop-of-length-le s {i = suc i} (omega arith)) in
+    let one : drop i s ≡ getD s i 0 ∷ [] =
+    drop-cons s i 0 (omega arith) ∙ ap (λ (l : List ℕ). getD s i 0 ∷ l) (drop-of-length-le s {i = suc i} (omega arith)) in
     ap (λ (k : ℕ). drop k (bits s)) (sym (div-add-mod' at 8))
     ∙ sym (drop-drop (at % 8) (i * 8) (bits s))
     ∙ ap (drop (at % 8)) (drop-bytes i s ∙ ap bits one ∙ append-nil (digits 8 (getD s i 0)))

@@ -28,7 +28,8 @@ use Rattle.checking.specs.Checking.{isClosed, counted, goOn, endOf, disk
 
 -- Going on after a reading.
 
-goOn-same : {A B : Type 0} (r : Read A) (f g : A → List ℕ → Answer B) → ((a : A) (rest : List ℕ) → r ≡ got a rest → f a rest ≡ g a rest) → goOn r f ≡ goOn r g
+goOn-same : {A B : Type 0} (r : Read A) (f g : A → List ℕ → Answer B)
+    → ((a : A) (rest : List ℕ) → r ≡ got a rest → f a rest ≡ g a rest) → goOn r f ≡ goOn r g
 unfolding goOn
 goOn-same (got a rest) f g h = h a rest refl
 goOn-same (stop n) f g h = refl

@@ -1,6 +1,6 @@
 -- What is known while the rounds of a sheet are played: the answer is what the rest of the sheet gives from here. Each step of the player keeps
 -- it. Assumes nothing.
-use mathlib.Core.Path.{_≡_, refl, sym, ap, _∙_, subst₃}
+use mathlib.Core.Path.{_≡_, refl, sym, ap, _∙_, subst, subst₃}
 use mathlib.Core.Bool.{Bool, true, false}
 use mathlib.Core.List.{List}
 use Prim.Native.Nat.{ℕ, zero, suc, _+_, _-_, _*_, _≤_, _<_}
@@ -65,26 +65,17 @@ pub record BeforeDisk (c : Stored) (s : List ℕ) (rounds k : ℕ) (b : Buffers)
 pub record AtReading (c : Stored) (s : List ℕ) (rounds : ℕ) (f : List ℕ) (at k : ℕ) (b : Buffers) : Type 0 where
   pub within : k ≤ rounds
   pub kept : Kept c b f at (8 * k)
-  pub answer : roundsFrom (jobOf c) rounds (rounds - k) (afterReading (jobOf c) (b .resident) (b .next) k) f (drop at (bits s)) ≡ played (jobOf c) rounds s
+  pub answer : roundsFrom (jobOf c) rounds (rounds - k) (afterReading (jobOf c) (b .resident) (b .next) k) f (drop at (bits s))
+      ≡ played (jobOf c) rounds s
 
 -- more actions than there were
-kept-more : (c : Stored) (b : Buffers) (f : List ℕ) (at m n : ℕ) → m ≤ n → Kept c b f at m → Kept c b f at n
-kept-more c b f at m n h p = record {
+kept-more : {c : Stored} {b : Buffers} {f : List ℕ} {at m : ℕ} (n : ℕ) → m ≤ n → Kept c b f at m → Kept c b f at n
+kept-more n h p = record {
   holds = p .holds;
   near = omega arith;
   long = p .long;
   few = λ e. (let q = p .few e in omega (arith, q));
 }
-
--- a reference is a block
-pub ref-below : (c : Stored) → Fits c → (i : ℕ) → i < c .count → getD (c .refs) i 0 < 512
-ref-below c h i l =
-    let n = refs-are c h in
-    let b = blocks-are c h in
-    let few = h .fewBlocks in
-    let known = h .sound .toBlocks i (omega (arith, n)) in
-    let same = ref-at c h i l in
-    omega (arith, b, few, known, same)
 
 -- one more fetch of disk d
 few-more : (f : List ℕ) (d n : ℕ) → d < length f → ((e : ℕ) → getD f e 0 ≤ n) → (e : ℕ) → getD (set f d (getD f d 0 + 1)) e 0 ≤ suc n
@@ -95,53 +86,75 @@ few-more f d n p h e =
     rw (same, getD-set-same f d (getD f d 0 + 1) 0 p) (omega (arith, q)))
     (λ y. let q = h e in rw (getD-set-other f d e (getD f d 0 + 1) 0 (eqb-false e d y)) (omega (arith, q)))
 
+kept-fetch : {c : Stored} {b b′ : Buffers} {f : List ℕ} {at at′ d n m : ℕ} → Kept c b f at n → Holds (jobOf c) b′ (stateOf b′ 0)
+    → d < 8 → at′ ≤ at + 20 → m ≡ suc n → Kept c b′ (set f d (getD f d 0 + 1)) at′ m
+kept-fetch {f = f} {d = d} {n = n} p h l q e = record {
+  holds = h;
+  near = (let r = p .near in omega (arith, r));
+  long = length-set f d _ ∙ p .long;
+  few = λ i. (let r = few-more f d n (let k = p .long in omega (arith, k)) (p .few) i in omega (arith, r));
+}
+
+-- a reference is a block
+pub ref-below : {c : Stored} → Fits c → {i : ℕ} → i < c .count → getD (c .refs) i 0 < 512
+ref-below {c} h {i} l =
+    let n = refs-are c h in
+    let b = blocks-are c h in
+    let few = h .fewBlocks in
+    let known = h .sound .toBlocks i (omega (arith, n)) in
+    let same = ref-at c h i l in
+    omega (arith, b, few, known, same)
+
 -- the next reference is consumed, or is the first that is not
-read-on : (marks : List Bool) (refs : List ℕ) (q : ℕ) → q < length refs → isResident marks (getD refs q 0) ≡ true
-    → consumed marks (drop q refs) ≡ suc (consumed marks (drop (suc q) refs))
-unfolding consumed
-read-on marks refs q l m = rw (drop-cons refs q 0 l, m)
+module _ (marks : List Bool) (refs : List ℕ) (q : ℕ) where
+  read-on : q < length refs → isResident marks (getD refs q 0) ≡ true → consumed marks (drop q refs) ≡ suc (consumed marks (drop (suc q) refs))
+  unfolding consumed
+  read-on l m = rw (drop-cons refs q 0 l, m)
 
-read-missing : (marks : List Bool) (refs : List ℕ) (q : ℕ) → q < length refs → isResident marks (getD refs q 0) ≡ false → consumed marks (drop q refs) ≡ 0
-unfolding consumed
-read-missing marks refs q l m = rw (drop-cons refs q 0 l, m)
+  read-missing : q < length refs → isResident marks (getD refs q 0) ≡ false → consumed marks (drop q refs) ≡ 0
+  unfolding consumed
+  read-missing l m = rw (drop-cons refs q 0 l, m)
 
-read-none : (marks : List Bool) (refs : List ℕ) (q : ℕ) → length refs ≤ q → consumed marks (drop q refs) ≡ 0
-unfolding consumed
-read-none marks refs q l = rw (drop-of-length-le refs {i = q} l)
+  read-none : length refs ≤ q → consumed marks (drop q refs) ≡ 0
+  unfolding consumed
+  read-none l = rw (drop-of-length-le refs {i = q} l)
 
 zeros-at : (n e : ℕ) → _≡_ {A = ℕ} (getD (replicate n 0) e 0) 0
 zeros-at zero e = refl
 zeros-at (suc n) zero = refl
 zeros-at (suc n) (suc e) = zeros-at n e
 
-module _ (c : Stored) (h : Fits c) (s : List ℕ) (rounds : ℕ) where
+module _ {c : Stored} (h : Fits c) {s : List ℕ} {rounds : ℕ} where
   -- at the start
   pub round-first : BeforeRound c s rounds emptyBuffers (replicate 8 0) 12 0
   unfolding played start noneResident emptyBuffers
-  round-first = record {
-    within = omega arith;
-    kept = record {
-      holds = holds-start (jobOf c) (let e = disks-are c h in let f = h .fewDisks in omega (arith, e, f));
-      near = omega arith;
-      long = refl;
-      few = λ e. (let z = zeros-at 8 e in omega (arith, z));
-    };
-    answer = ap (λ (n : ℕ). roundsFrom (jobOf c) rounds n (start (jobOf c)) (replicate 8 0) (drop 12 (bits s))) (let e : rounds - 0 ≡ rounds = omega arith in e);
-  }
+  round-first =
+      let all : rounds - 0 ≡ rounds = omega arith in
+      record {
+        within = omega arith;
+        kept = record {
+          holds = holds-start (jobOf c) (let e = disks-are c h in let f = h .fewDisks in omega (arith, e, f));
+          near = omega arith;
+          long = refl;
+          few = λ e. (let z = zeros-at 8 e in omega (arith, z));
+        };
+        answer = ap (λ (n : ℕ). roundsFrom (jobOf c) rounds n (start (jobOf c)) (replicate 8 0) (drop 12 (bits s))) all;
+      }
 
   -- a round begins
-  pub disk-first : (b : Buffers) (f : List ℕ) (at k : ℕ) → BeforeRound c s rounds b f at k → k < rounds → BeforeDisk c s rounds k b f at 0
+  pub disk-first : {b : Buffers} {f : List ℕ} {at k : ℕ} → BeforeRound c s rounds b f at k → k < rounds → BeforeDisk c s rounds k b f at 0
   unfolding roundsFrom
-  disk-first b f at k p l =
+  disk-first {k = k} p l =
       let left : rounds - k ≡ suc (rounds - suc k) = omega arith in
       let all : diskCount (jobOf c) ≡ c .disks - 0 = disks-are c h ∙ (let e : c .disks ≡ c .disks - 0 = omega arith in e) in
       record {
         within = omega arith;
-        kept = kept-more c b f at (8 * k) (8 * k + 0) (omega arith) (p .kept);
+        kept = kept-more (8 * k + 0) (omega arith) (p .kept);
         answer = rw (← all) (rw left at (p .answer));
       }
 
-  module _ (k : ℕ) (b : Buffers) (f : List ℕ) (at d : ℕ) (p : BeforeDisk c s rounds k b f at d) (l : d < c .disks) where
+  -- disk d acts
+  module _ {k : ℕ} {b : Buffers} {f : List ℕ} {at d : ℕ} (p : BeforeDisk c s rounds k b f at d) (l : d < c .disks) where
     held : Holds (jobOf c) b (stateOf b 0)
     held = p .kept .holds
 
@@ -153,6 +166,9 @@ module _ (c : Stored) (h : Fits c) (s : List ℕ) (rounds : ℕ) where
 
     here : d < diskCount (jobOf c)
     here = let e = disks-are c h in omega (arith, e)
+
+    small : d < 8
+    small = let a = here in let b = fewDisks in omega (arith, a, b)
 
     -- the reader of the model reads the same action
     reads : (a : Act) → a ≡ actionHere c s b at d → actionReader (jobOf c) (b .resident) d (drop at (bits s)) ≡ actRead s at a
@@ -180,10 +196,10 @@ module _ (c : Stored) (h : Fits c) (s : List ℕ) (rounds : ℕ) where
         let left : c .disks - d ≡ suc (c .disks - suc d) = omega arith in
         rw (← reads a e) (rw left at (p .answer))
 
-    -- a refusal
-    pub disk-refused : (n : ℕ) → Refused n ≡ actionHere c s b at d → refused n ≡ played (jobOf c) rounds s
+    -- its action is refused
+    pub disk-refused : {n : ℕ} → Refused n ≡ actionHere c s b at d → refused n ≡ played (jobOf c) rounds s
     unfolding goOn actRead
-    disk-refused n e = goes (Refused n) e
+    disk-refused {n} e = goes (Refused n) e
 
     -- nothing is fetched
     pub disk-idle : Idle ≡ actionHere c s b at d → BeforeDisk c s rounds k b f (at + 1) (d + 1)
@@ -201,7 +217,7 @@ module _ (c : Stored) (h : Fits c) (s : List ℕ) (rounds : ℕ) where
         })
 
     -- a block is fetched
-    module _ (x : ℕ) (e : Fetch x ≡ actionHere c s b at d) where
+    module _ {x : ℕ} (e : Fetch x ≡ actionHere c s b at d) where
       into : Block (jobOf c) (b .resident) d x false × (load (jobOf c) (b .resident) d < slotsOf (jobOf c) d)
       unfolding actRead Legal Room
       into = legal (fetch x) (drop (at + 11) (bits s)) (reads (Fetch x) e)
@@ -212,24 +228,20 @@ module _ (c : Stored) (h : Fits c) (s : List ℕ) (rounds : ℕ) where
           let r = into .1 in
           let loads = held .loads d here in
           let most = h .sound .fewSlots d here in
-          (omega (arith, q, fewBlocks), omega (arith, here, fewDisks), omega (arith, r, loads, most))
+          (omega (arith, q, fewBlocks), small, omega (arith, r, loads, most))
 
       pub disk-fetch : BeforeDisk c s rounds k (fetchInto b x d) (set f d (getD f d 0 + 1)) (at + 11) (d + 1)
       unfolding goOn actRead act counted fetchInto
       disk-fetch =
+          let after = holds-fetch (jobOf c) b (stateOf b 0) held fewBlocks fewDisks d here x (into .0) in
           rw (add-one d) (record {
             within = l;
-            kept = record {
-              holds = holds-fetch (jobOf c) b (stateOf b 0) held fewBlocks fewDisks d here x (into .0);
-              near = (let q = p .kept .near in omega (arith, q));
-              long = length-set f d _ ∙ p .kept .long;
-              few = λ i. (let q = few-more f d (8 * k + d) (let n = p .kept .long in omega (arith, n, here, fewDisks)) (p .kept .few) i in omega (arith, q));
-            };
+            kept = kept-fetch (p .kept) after small (omega arith) (omega arith);
             answer = goes (Fetch x) e;
           })
 
     -- a block takes the place of another
-    module _ (x z : ℕ) (e : Replace x z ≡ actionHere c s b at d) where
+    module _ {x z : ℕ} (e : Replace x z ≡ actionHere c s b at d) where
       both : Block (jobOf c) (b .resident) d x false × Block (jobOf c) (b .resident) d z true
       unfolding actRead Legal Room
       both = legal (replace x z) (drop (at + 20) (bits s)) (reads (Replace x z) e) .0
@@ -238,54 +250,49 @@ module _ (c : Stored) (h : Fits c) (s : List ℕ) (rounds : ℕ) where
       replace-fits =
           let q = both .0 .known in
           let r = both .1 .known in
-          (omega (arith, r, fewBlocks), omega (arith, q, fewBlocks), omega (arith, here, fewDisks), holds-some (jobOf c) b (stateOf b 0) held d here z (both .1))
+          let some = holds-some (jobOf c) b (stateOf b 0) held d here z (both .1) in
+          (omega (arith, r, fewBlocks), omega (arith, q, fewBlocks), small, some)
 
       pub disk-replace : BeforeDisk c s rounds k (replaceIn b z x d) (set f d (getD f d 0 + 1)) (at + 20) (d + 1)
       unfolding goOn actRead act counted replaceIn
       disk-replace =
+          let after = holds-replace (jobOf c) b (stateOf b 0) held fewBlocks fewDisks d here x z (both .0) (both .1) in
           rw (add-one d) (record {
             within = l;
-            kept = record {
-              holds = holds-replace (jobOf c) b (stateOf b 0) held fewBlocks fewDisks d here x z (both .0) (both .1);
-              near = (let q = p .kept .near in omega (arith, q));
-              long = length-set f d _ ∙ p .kept .long;
-              few = λ i. (let q = few-more f d (8 * k + d) (let n = p .kept .long in omega (arith, n, here, fewDisks)) (p .kept .few) i in omega (arith, q));
-            };
+            kept = kept-fetch (p .kept) after small (omega arith) (omega arith);
             answer = goes (Replace x z) e;
           })
 
-  -- the same disk, with values that are known by equations
-  pub disk-same : (k : ℕ) {b b′ : Buffers} {f f′ : List ℕ} {at at′ d : ℕ} → b ≡ b′ → f ≡ f′ → at ≡ at′ → BeforeDisk c s rounds k b′ f′ at′ d
-      → BeforeDisk c s rounds k b f at d
-  disk-same k {d = d} p q r t = subst₃ (λ (b : Buffers) (f : List ℕ) (at : ℕ). BeforeDisk c s rounds k b f at d) (sym p) (sym q) (sym r) t
-
   -- all disks have acted
-  pub reading-first : (k : ℕ) (b : Buffers) (f : List ℕ) (at d : ℕ) → BeforeDisk c s rounds k b f at d → c .disks ≤ d → k < rounds
+  pub reading-first : {k : ℕ} {b : Buffers} {f : List ℕ} {at d : ℕ} → BeforeDisk c s rounds k b f at d → c .disks ≤ d → k < rounds
       → AtReading c s rounds f at (k + 1) b
   unfolding disksFrom
-  reading-first k b f at d p l q =
+  reading-first {k} {d = d} p l q =
       let none : c .disks - d ≡ 0 = omega arith in
       let few = h .fewDisks in
       let most = p .within in
       rw (add-one k) (record {
         within = q;
-        kept = kept-more c b f at (8 * k + d) (8 * suc k) (omega (arith, few, most)) (p .kept);
+        kept = kept-more (8 * suc k) (omega (arith, few, most)) (p .kept);
         answer = rw none at (p .answer);
       })
 
-  module _ (f : List ℕ) (at k : ℕ) (b : Buffers) (p : AtReading c s rounds f at k b) where
+  -- references are read
+  module _ {f : List ℕ} {at k : ℕ} {b : Buffers} (p : AtReading c s rounds f at k b) where
     -- one reference more
     pub reading-more : b .next < c .count → isResident (b .resident) (getD (c .refs) (b .next) 0) ≡ true → AtReading c s rounds f at k (consumeOne b)
     unfolding consumeOne
     reading-more l m =
         let n = refs-are c h in
-        let one = read-on (b .resident) (jobOf c .refs) (b .next) (omega (arith, n)) (rw (ref-at c h (b .next) l) m) in
-        let same : b .next + consumed (b .resident) (drop (b .next) (jobOf c .refs)) ≡ b .next + 1 + consumed (b .resident) (drop (b .next + 1) (jobOf c .refs)) =
+        let refs = jobOf c .refs in
+        let one = read-on (b .resident) refs (b .next) (omega (arith, n)) (rw (ref-at c h (b .next) l) m) in
+        let same : b .next + consumed (b .resident) (drop (b .next) refs) ≡ b .next + 1 + consumed (b .resident) (drop (b .next + 1) refs) =
         rw (add-one (b .next)) (omega (arith, one)) in
+        let held = holds-consume (jobOf c) b (stateOf b 0) (p .kept .holds) in
         record {
           within = p .within;
           kept = record {
-            holds = holds-same (jobOf c) (consumeOne b) _ _ refl (sym (add-one (b .next))) (holds-consume (jobOf c) b (stateOf b 0) (p .kept .holds));
+            holds = holds-same (jobOf c) (consumeOne b) _ _ refl (sym (add-one (b .next))) held;
             near = p .kept .near;
             long = p .kept .long;
             few = p .kept .few;
@@ -308,9 +315,23 @@ module _ (c : Stored) (h : Fits c) (s : List ℕ) (rounds : ℕ) where
     reading-over l = let n = refs-are c h in stops (read-none (b .resident) (jobOf c .refs) (b .next) (omega (arith, n)))
 
   -- all rounds are played
-  pub rounds-over : (b : Buffers) (f : List ℕ) (at k : ℕ) → BeforeRound c s rounds b f at k → rounds ≤ k
+  pub rounds-over : {b : Buffers} {f : List ℕ} {at k : ℕ} → BeforeRound c s rounds b f at k → rounds ≤ k
       → endOf (ltb (b .next) (c .count)) rounds f (drop at (bits s)) ≡ played (jobOf c) rounds s
   unfolding roundsFrom
-  rounds-over b f at k p l =
+  rounds-over {b} {f} {at} {k} p l =
       let none : rounds - k ≡ 0 = omega arith in
       ap (λ (n : ℕ). endOf (ltb (b .next) n) rounds f (drop at (bits s))) (sym (refs-are c h)) ∙ (rw none at (p .answer))
+
+-- the same, with values that are known by equations
+pub round-same : {c : Stored} {s f : List ℕ} {rounds at k : ℕ} {b b′ : Buffers} → b ≡ b′ → BeforeRound c s rounds b′ f at k
+    → BeforeRound c s rounds b f at k
+round-same {c} {s} {f} {rounds} {at} {k} p t = subst (λ (b : Buffers). BeforeRound c s rounds b f at k) (sym p) t
+
+pub disk-same : {c : Stored} {s : List ℕ} {rounds k d : ℕ} {b b′ : Buffers} {f f′ : List ℕ} {at at′ : ℕ} → b ≡ b′ → f ≡ f′ → at ≡ at′
+    → BeforeDisk c s rounds k b′ f′ at′ d → BeforeDisk c s rounds k b f at d
+disk-same {c} {s} {rounds} {k} {d} p q r t =
+    subst₃ (λ (b : Buffers) (f : List ℕ) (at : ℕ). BeforeDisk c s rounds k b f at d) (sym p) (sym q) (sym r) t
+
+pub reading-same : {c : Stored} {s f : List ℕ} {rounds at k : ℕ} {b b′ : Buffers} → b ≡ b′ → AtReading c s rounds f at k b′
+    → AtReading c s rounds f at k b
+reading-same {c} {s} {f} {rounds} {at} {k} p t = subst (AtReading c s rounds f at k) (sym p) t

@@ -150,7 +150,8 @@ fn ending(sheet: &[u8], at: usize, left: bool, rounds: usize, fetches: [u16; 8])
     }
 }
 
-// The rounds of a sheet, played.
+// The rounds of a sheet, played. In each, every disk does its action, and then references are consumed in order: the reading stops at the first
+// missing block or at the end.
 fn play(job: Job, sheet: &[u8], rounds: usize) -> Checked
     requires { ⌜ Fits job × (rounds ≤ 2048) ⌝ }
     ensures { λ r. ⌜ r ≡ checkedOf (played (jobOf job) rounds (now (sheet .entry))) ⌝ }

@@ -1,7 +1,6 @@
 -- `check` meets its contract: the law of each way from the round count on. Assumes nothing.
 use mathlib.Core.Path.{_≡_, sym, ap, _∙_}
 use native.Mathlib.Omega.{arith}
-use borrow.Author.Needs.{needs}
 use denote.Ref.{now}
 use Rattle.bits.specs.Fields.{fieldAt}
 use Rattle.bits.specs.declared.Field.the-variants.{Value}
@@ -15,10 +14,10 @@ field-requires : tie.Need-field-requires
 field-requires c κs = omega arith
 
 enum-known-rounds : tie.Need-enum-known-rounds
-enum-known-rounds c = search needs
+enum-known-rounds c = c .match .keys1
 
 enum-told : tie.Need-enum-told
-enum-told c = search needs
+enum-told c = c .match .keys2
 
 refusal-requires : tie.Need-refusal-requires
 refusal-requires c κs = tt
@@ -26,10 +25,12 @@ refusal-requires c κs = tt
 returns : tie.Need-returns
 returns c =
     let a = c .before .before .before .before .before .args in
-    c .refusal .ensures ∙ ap checkedOf (sym (check-ended (jobOf (a .job)) (now (a .sheet)) (sym (c .before .before .before .field .ensures) ∙ c .before .enum-told .given .1)))
+    let ended = sym (c .before .before .before .field .ensures) ∙ c .before .enum-told .given .1 in
+    c .refusal .ensures ∙ ap checkedOf (sym (check-ended (jobOf (a .job)) (now (a .sheet)) ended))
 
 -- the round count that was read
-count-read : (c : tie.After-known-told) → fieldAt (now (c .before .before .before .before .before .args .sheet)) 0 12 ≡ Value (c .before .rounds .given .0 .0)
+count-read : (c : tie.After-known-told) → let a = c .before .before .before .before .before .args in
+    fieldAt (now (a .sheet)) 0 12 ≡ Value (c .before .rounds .given .0 .0)
 count-read c = sym (c .before .before .before .field .ensures) ∙ c .before .rounds .given .1
 
 refusal-requires-2 : tie.Need-refusal-requires-2
@@ -38,7 +39,8 @@ refusal-requires-2 c κs = tt
 returns-2 : tie.Need-returns-2
 returns-2 c =
     let a = c .before .before .before .before .before .before .before .args in
-    c .refusal2 .ensures ∙ ap checkedOf (sym (check-long (jobOf (a .job)) (now (a .sheet)) _ (count-read (c .before .before)) (c .before .if1 .taken)))
+    let read = count-read (c .before .before) in
+    c .refusal2 .ensures ∙ ap checkedOf (sym (check-long (jobOf (a .job)) (now (a .sheet)) _ read (c .before .if1 .taken)))
 
 play-requires : tie.Need-play-requires
 play-requires c κs = (c .before .before .before .before .before .before .pre, c .if1 .left)
@@ -46,7 +48,8 @@ play-requires c κs = (c .before .before .before .before .before .before .pre, c
 returns-3 : tie.Need-returns-3
 returns-3 c =
     let a = c .before .before .before .before .before .before .before .args in
-    c .play .ensures ∙ ap checkedOf (sym (check-plays (jobOf (a .job)) (now (a .sheet)) _ (count-read (c .before .before)) (c .before .if1 .left)))
+    let read = count-read (c .before .before) in
+    c .play .ensures ∙ ap checkedOf (sym (check-plays (jobOf (a .job)) (now (a .sheet)) _ read (c .before .if1 .left)))
 
 pub check-spec : {M : Type 1} → statement M
 check-spec =

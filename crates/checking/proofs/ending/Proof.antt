@@ -1,21 +1,20 @@
 -- `ending` meets its contract: each answer rewrites with the tests that led there. Assumes nothing.
-use borrow.Author.Needs.{needs}
 use Rattle.checking.specs.Checking.{checkedOf, endOf}
 use Rattle.checking.proofs.ending.Statement.{statement}
 use Rattle.checking.proofs.ending.Tie as tie
 
 refusal-requires : tie.Need-refusal-requires
-refusal-requires c κs = search needs
+refusal-requires c κs = tt
 
 returns : tie.Need-returns
 unfolding endOf
 returns c = rw (c .before .if1 .taken) (c .refusal .ensures)
 
 closed-requires : tie.Need-closed-requires
-closed-requires c κs = search needs
+closed-requires c κs = c .before .before .pre
 
 refusal-requires-2 : tie.Need-refusal-requires-2
-refusal-requires-2 c κs = search needs
+refusal-requires-2 c κs = tt
 
 returns-2 : tie.Need-returns-2
 unfolding endOf checkedOf

@@ -1,27 +1,18 @@
 -- `play` meets its contract. Each loop's invariant says that the answer is what the rest of the sheet gives from here (`Rounds`). The measures
 -- are the rounds, the disks and the references that are left. Assumes nothing.
-use mathlib.Core.Path.{_≡_, sym, ap, _∙_, subst}
+use mathlib.Core.Path.{_≡_, sym, ap, _∙_}
 use mathlib.Core.Logic.{⊎-elim}
-use Prim.Native.Nat.{_+_, _-_, _<_}
+use Prim.Native.Nat.{_-_, _<_}
 use native.Mathlib.Omega.{arith}
-use borrow.Author.Needs.{needs}
 use borrow.Author.Tests.{not-true, not-false}
 use lib.ListN.{getD}
 use denote.Ref.{now}
 use Rattle.playing.specs.Playing.{consumeOne}
 use Rattle.checking.specs.Checking.{checkedOf}
-use Rattle.checking.proofs.Rounds.{actionHere, BeforeRound, BeforeDisk, AtReading, round-first, disk-first, disk-refused, disk-idle, fetch-fits, disk-fetch, replace-fits, disk-replace, disk-same, ref-below, reading-first, reading-more, reading-missing, reading-over, rounds-over}
+use Rattle.checking.proofs.Rounds as step
+use Rattle.checking.proofs.Rounds.{actionHere, BeforeRound, BeforeDisk, AtReading}
 use Rattle.checking.proofs.play.Statement.{statement}
 use Rattle.checking.proofs.play.Tie as tie
-use Rattle.checking.proofs.play.Reads as reads
-use Rattle.checking.proofs.play.Lts as lts
-use Rattle.checking.proofs.action.Reads as action-reads
-use Rattle.checking.proofs.ending.Reads as ending-reads
-use Rattle.checking.proofs.refusal.Reads as refusal-reads
-use Rattle.playing.proofs.Buffers.consume.Reads as consume-reads
-use Rattle.playing.proofs.Buffers.empty.Reads as empty-reads
-use Rattle.playing.proofs.Buffers.fetch.Reads as fetch-reads
-use Rattle.playing.proofs.Buffers.replace.Reads as replace-reads
 
 abbrev Inv-loop : tie.InvT-loop
 Inv-loop sheet rounds job b₀ fetches₀ at₀ k d₀ b fetches at d = BeforeDisk job sheet rounds k b fetches at d
@@ -45,20 +36,32 @@ empty-requires : tie.Need-empty-requires Inv-loop μ-loop Inv-reading μ-reading
 empty-requires c κs = tt
 
 rounds-holds : tie.Need-rounds-holds Inv-loop μ-loop Inv-reading μ-reading Inv-rounds μ-rounds
-rounds-holds c =
-    let a = c .before .before .args in
-    subst (λ b. BeforeRound (a .t1) (now (a .sheet)) (a .rounds) b _ 12 0) (sym (c .empty .ensures))
-    (round-first (a .t1) (c .before .before .pre .0) (now (a .sheet)) (a .rounds))
+rounds-holds c = step.round-same (c .empty .ensures) (step.round-first (c .before .before .pre .0))
 
 loop-holds : tie.Need-loop-holds Inv-loop μ-loop Inv-reading μ-reading Inv-rounds μ-rounds
-loop-holds c =
-    let a = c .before .before .before .before .args in
-    let r = c .before .rounds in
-    disk-first (a .t1) (c .before .before .before .before .pre .0) (now (a .sheet)) (a .rounds) (r .b) (r .fetches) (r .at) (r .k) (r .inv) (c .rounds-test .taken)
+loop-holds c = step.disk-first (c .before .before .before .before .pre .0) (c .before .rounds .inv) (c .rounds-test .taken)
 
--- the bounds of a turn
+-- the way back from a place: to the turn of a disk, and to the entry of the function
+abbrev turn : tie.After-action Inv-loop μ-loop Inv-reading μ-reading Inv-rounds μ-rounds
+    → tie.In-loop Inv-loop μ-loop Inv-reading μ-reading Inv-rounds μ-rounds
+turn c = c .before .before .before .before .before .before .before
+
+abbrev entry : tie.In-rounds Inv-loop μ-loop Inv-reading μ-reading Inv-rounds μ-rounds
+    → tie.Start Inv-loop μ-loop Inv-reading μ-reading Inv-rounds μ-rounds
+entry c = c .before .before .before .before
+
+-- the disk of a turn is one of eight, and one more fetch fits
 disk-small : (c : tie.In-loop Inv-loop μ-loop Inv-reading μ-reading Inv-rounds μ-rounds) → c .before .loop .d < 8
 disk-small c = let n = c .before .before .before .before .before .before .pre .0 .fewDisks in let t = c .loop-test .taken in omega (arith, n, t)
+
+fetches-fit : (c : tie.In-loop Inv-loop μ-loop Inv-reading μ-reading Inv-rounds μ-rounds) → let l = c .before .loop in
+    getD (l .fetches) (l .d) 0 < 16384
+fetches-fit c =
+    let n = c .before .before .before .before .before .before .pre .1 in
+    let d = disk-small c in
+    let k = c .before .before .rounds-test .taken in
+    let p = c .before .loop .inv .kept .few (c .before .loop .d) in
+    omega (arith, n, d, k, p)
 
 element-copy-out-full : tie.Need-element-copy-out-full Inv-loop μ-loop Inv-reading μ-reading Inv-rounds μ-rounds
 element-copy-out-full c = disk-small c
@@ -74,41 +77,32 @@ action-requires c κs =
     let k = c .before .before .before .before .before .before .before .before .rounds-test .taken in
     (omega (arith, n, p, d, k), n .0 .fewBlocks)
 
+-- the action that was read
+acted : (c : tie.After-action Inv-loop μ-loop Inv-reading μ-reading Inv-rounds μ-rounds) → let a = entry (turn c .before .before) .args in
+    let l = turn c .before .loop in
+    c .action .result ≡ actionHere (a .t1) (now (a .sheet)) (l .b) (l .at) (l .d)
+acted c = c .action .ensures
+
 enum-told : tie.Need-enum-told Inv-loop μ-loop Inv-reading μ-reading Inv-rounds μ-rounds
-enum-told c = search needs
+enum-told c = c .match .keys1
 
 add-at : tie.Need-add-at Inv-loop μ-loop Inv-reading μ-reading Inv-rounds μ-rounds
 add-at c = omega arith
 
 enum-known-x : tie.Need-enum-known-x Inv-loop μ-loop Inv-reading μ-reading Inv-rounds μ-rounds
-enum-known-x c = search needs
-
--- the action that was read
-acted : (c : tie.After-action Inv-loop μ-loop Inv-reading μ-reading Inv-rounds μ-rounds)
-    → c .action .result ≡ actionHere (c .before .before .before .before .before .before .before .before .before .before .before .before .before .args .t1) (now (c .before .before .before .before .before .before .before .before .before .before .before .before .before .args .sheet)) (c .before .before .before .before .before .before .before .before .loop .b) (c .before .before .before .before .before .before .before .before .loop .at) (c .before .before .before .before .before .before .before .before .loop .d)
-acted c = c .action .ensures
+enum-known-x c = c .match .keys2
 
 fetch-requires : tie.Need-fetch-requires Inv-loop μ-loop Inv-reading μ-reading Inv-rounds μ-rounds
 fetch-requires c κs =
-    let s = c .before .before .before .before .before .before .before .before .before .before .before .before .before .before .before .before in
-    let l = c .before .before .before .before .before .before .before .before .before .before .before .loop in
-    fetch-fits (s .args .t1) (s .pre .0) (now (s .args .sheet)) (s .args .rounds) (c .before .before .before .before .before .before .before .before .before .before .before .before .before .rounds .k) (l .b) (l .fetches) (l .at) (l .d) (l .inv) (c .before .before .before .before .before .before .before .before .before .before .loop-test .taken)
-    (c .before .x .given .0 .0) (sym (c .before .x .given .1) ∙ acted (c .before .before .before))
+    let t = turn (c .before .before .before) in
+    let read = sym (c .before .x .given .1) ∙ acted (c .before .before .before) in
+    step.fetch-fits (entry (t .before .before) .pre .0) (t .before .loop .inv) (t .loop-test .taken) read
 
 mul-fetches : tie.Need-mul-fetches Inv-loop μ-loop Inv-reading μ-reading Inv-rounds μ-rounds
 mul-fetches c = omega arith
 
 array-read-fetches : tie.Need-array-read-fetches Inv-loop μ-loop Inv-reading μ-reading Inv-rounds μ-rounds
 array-read-fetches c = disk-small (c .before .before .before .before .before .before .before .before .before .before .before)
-
--- one more fetch still fits
-fetches-fit : (c : tie.In-loop Inv-loop μ-loop Inv-reading μ-reading Inv-rounds μ-rounds) → getD (c .before .loop .fetches) (c .before .loop .d) 0 < 16384
-fetches-fit c =
-    let n = c .before .before .before .before .before .before .pre .1 in
-    let d = disk-small c in
-    let k = c .before .before .rounds-test .taken in
-    let p = c .before .loop .inv .kept .few (c .before .loop .d) in
-    omega (arith, n, d, k, p)
 
 add-fetches : tie.Need-add-fetches Inv-loop μ-loop Inv-reading μ-reading Inv-rounds μ-rounds
 add-fetches c = omega (arith, fetches-fit (c .before .before .before .before .before .before .before .before .before .before .before))
@@ -120,14 +114,13 @@ add-at-2 : tie.Need-add-at-2 Inv-loop μ-loop Inv-reading μ-reading Inv-rounds 
 add-at-2 c = omega arith
 
 enum-known-x-2 : tie.Need-enum-known-x-2 Inv-loop μ-loop Inv-reading μ-reading Inv-rounds μ-rounds
-enum-known-x-2 c = search needs
+enum-known-x-2 c = c .match .keys3
 
 replace-requires : tie.Need-replace-requires Inv-loop μ-loop Inv-reading μ-reading Inv-rounds μ-rounds
 replace-requires c κs =
-    let s = c .before .before .before .before .before .before .before .before .before .before .before .before .before .before .before .before in
-    let l = c .before .before .before .before .before .before .before .before .before .before .before .loop in
-    replace-fits (s .args .t1) (s .pre .0) (now (s .args .sheet)) (s .args .rounds) (c .before .before .before .before .before .before .before .before .before .before .before .before .before .rounds .k) (l .b) (l .fetches) (l .at) (l .d) (l .inv) (c .before .before .before .before .before .before .before .before .before .before .loop-test .taken)
-    (c .before .x2 .given .0 .0) (c .before .x2 .given .0 .1 .0) (sym (c .before .x2 .given .1) ∙ acted (c .before .before .before))
+    let t = turn (c .before .before .before) in
+    let read = sym (c .before .x2 .given .1) ∙ acted (c .before .before .before) in
+    step.replace-fits (entry (t .before .before) .pre .0) (t .before .loop .inv) (t .loop-test .taken) read
 
 mul-fetches-2 : tie.Need-mul-fetches-2 Inv-loop μ-loop Inv-reading μ-reading Inv-rounds μ-rounds
 mul-fetches-2 c = omega arith
@@ -145,18 +138,16 @@ add-at-3 : tie.Need-add-at-3 Inv-loop μ-loop Inv-reading μ-reading Inv-rounds 
 add-at-3 c = omega arith
 
 enum-known-n : tie.Need-enum-known-n Inv-loop μ-loop Inv-reading μ-reading Inv-rounds μ-rounds
-enum-known-n c = search needs
+enum-known-n c = c .match .keys4
 
 refusal-requires : tie.Need-refusal-requires Inv-loop μ-loop Inv-reading μ-reading Inv-rounds μ-rounds
 refusal-requires c κs = tt
 
 returns : tie.Need-returns Inv-loop μ-loop Inv-reading μ-reading Inv-rounds μ-rounds
 returns c =
-    let s = c .before .before .before .before .before .before .before .before .before .before .before .before .before .before .before .before .before in
-    let l = c .before .before .before .before .before .before .before .before .before .before .before .before .loop in
-    c .refusal .ensures
-    ∙ ap checkedOf (disk-refused (s .args .t1) (s .pre .0) (now (s .args .sheet)) (s .args .rounds) (c .before .before .before .before .before .before .before .before .before .before .before .before .before .before .rounds .k) (l .b) (l .fetches) (l .at) (l .d) (l .inv)
-    (c .before .before .before .before .before .before .before .before .before .before .before .loop-test .taken) (c .before .before .n .given .0 .0) (sym (c .before .before .n .given .1) ∙ acted (c .before .before .before .before)))
+    let t = turn (c .before .before .before .before) in
+    let read = sym (c .before .before .n .given .1) ∙ acted (c .before .before .before .before) in
+    c .refusal .ensures ∙ ap checkedOf (step.disk-refused (entry (t .before .before) .pre .0) (t .before .loop .inv) (t .loop-test .taken) read)
 
 add-d : tie.Need-add-d Inv-loop μ-loop Inv-reading μ-reading Inv-rounds μ-rounds
 add-d c = omega arith
@@ -166,22 +157,16 @@ loop-less c = omega arith
 
 loop-again : tie.Need-loop-again Inv-loop μ-loop Inv-reading μ-reading Inv-rounds μ-rounds
 loop-again c =
-    let s = c .before .before .before .before .before .before .before .before .before .before .before .before .before .before in
-    let l = c .before .before .before .before .before .before .before .before .before .loop in
-    let job = s .args .t1 in
-    let fits = s .pre .0 in
-    let sheet = now (s .args .sheet) in
-    let k = c .before .before .before .before .before .before .before .before .before .before .before .rounds .k in
-    let more = c .before .before .before .before .before .before .before .before .loop-test .taken in
+    let t = turn (c .before) in
+    let fits = entry (t .before .before) .pre .0 in
+    let inv = t .before .loop .inv in
+    let more = t .loop-test .taken in
+    let read = acted (c .before) in
     ⊎-elim
-    (λ w. disk-same job fits sheet (s .args .rounds) k (w .2) (w .3) (w .4)
-    (disk-idle job fits sheet (s .args .rounds) k (l .b) (l .fetches) (l .at) (l .d) (l .inv) more (sym (w .1 .given .1) ∙ acted (c .before))))
+    (λ w. step.disk-same (w .2) (w .3) (w .4) (step.disk-idle fits inv more (sym (w .1 .given .1) ∙ read)))
     (⊎-elim
-    (λ w. disk-same job fits sheet (s .args .rounds) k (w .4 ∙ w .3 .ensures) (w .5) (w .6)
-    (disk-fetch job fits sheet (s .args .rounds) k (l .b) (l .fetches) (l .at) (l .d) (l .inv) more (w .1 .given .0 .0) (sym (w .1 .given .1) ∙ acted (c .before))))
-    (λ w. disk-same job fits sheet (s .args .rounds) k (w .4 ∙ w .3 .ensures) (w .5) (w .6)
-    (disk-replace job fits sheet (s .args .rounds) k (l .b) (l .fetches) (l .at) (l .d) (l .inv) more (w .1 .given .0 .0) (w .1 .given .0 .1 .0)
-    (sym (w .1 .given .1) ∙ acted (c .before)))))
+    (λ w. step.disk-same (w .4 ∙ w .3 .ensures) (w .5) (w .6) (step.disk-fetch fits inv more (sym (w .1 .given .1) ∙ read)))
+    (λ w. step.disk-same (w .4 ∙ w .3 .ensures) (w .5) (w .6) (step.disk-replace fits inv more (sym (w .1 .given .1) ∙ read))))
     (c .match .came)
 
 add-k : tie.Need-add-k Inv-loop μ-loop Inv-reading μ-reading Inv-rounds μ-rounds
@@ -189,30 +174,25 @@ add-k c = omega arith
 
 reading-holds : tie.Need-reading-holds Inv-loop μ-loop Inv-reading μ-reading Inv-rounds μ-rounds
 reading-holds c =
-    let s = c .before .before .before .before .before .before in
-    let l = c .before .loop in
-    reading-first (s .args .t1) (s .pre .0) (now (s .args .sheet)) (s .args .rounds) (c .before .before .before .rounds .k) (l .b) (l .fetches) (l .at) (l .d) (l .inv)
-    (c .loop-test .left) (c .before .before .rounds-test .taken)
+    step.reading-first (entry (c .before .before) .pre .0) (c .before .loop .inv) (c .loop-test .left) (c .before .before .rounds-test .taken)
 
 rounds-less : tie.Need-rounds-less Inv-loop μ-loop Inv-reading μ-reading Inv-rounds μ-rounds
 rounds-less c = omega arith
 
 rounds-again : tie.Need-rounds-again Inv-loop μ-loop Inv-reading μ-reading Inv-rounds μ-rounds
-rounds-again c =
-    let s = c .before .before .before .before .before .before .before .before in
-    let l = c .before .before .before .loop in
-    reading-over (s .args .t1) (s .pre .0) (now (s .args .sheet)) (s .args .rounds) (l .fetches) (l .at) (c .before .before .before .before .before .rounds .k + 1) (c .before .reading .b) (c .before .reading .inv)
-    (c .reading-test .left)
+rounds-again c = step.reading-over (entry (c .before .before .before .before) .pre .0) (c .before .reading .inv) (c .reading-test .left)
+
+-- the next reference is a block
+ref-small : (c : tie.In-reading Inv-loop μ-loop Inv-reading μ-reading Inv-rounds μ-rounds)
+    → let job = entry (c .before .before .before .before) .args .t1 in
+    getD (job .refs) (c .before .reading .b .next) 0 < 512
+ref-small c = step.ref-below (entry (c .before .before .before .before) .pre .0) (c .reading-test .taken)
 
 mul-if1 : tie.Need-mul-if1 Inv-loop μ-loop Inv-reading μ-reading Inv-rounds μ-rounds
 mul-if1 c = omega arith
 
 element-copy-out-if1 : tie.Need-element-copy-out-if1 Inv-loop μ-loop Inv-reading μ-reading Inv-rounds μ-rounds
-element-copy-out-if1 c = let n = c .before .before .before .before .before .before .before .before .pre .0 .fewRefs in let t = c .reading-test .taken in omega (arith, n, t)
-
--- the next reference is a block
-ref-small : (c : tie.In-reading Inv-loop μ-loop Inv-reading μ-reading Inv-rounds μ-rounds) → getD (c .before .before .before .before .before .before .before .before .args .t1 .refs) (c .before .reading .b .next) 0 < 512
-ref-small c = ref-below (c .before .before .before .before .before .before .before .before .args .t1) (c .before .before .before .before .before .before .before .before .pre .0) (c .before .reading .b .next) (c .reading-test .taken)
+element-copy-out-if1 c = let n = entry (c .before .before .before .before) .pre .0 .fewRefs in let t = c .reading-test .taken in omega (arith, n, t)
 
 cast-if1 : tie.Need-cast-if1 Inv-loop μ-loop Inv-reading μ-reading Inv-rounds μ-rounds
 cast-if1 c = omega (arith, ref-small (c .before))
@@ -225,10 +205,9 @@ rounds-less-2 c = omega arith
 
 rounds-again-2 : tie.Need-rounds-again-2 Inv-loop μ-loop Inv-reading μ-reading Inv-rounds μ-rounds
 rounds-again-2 c =
-    let s = c .before .before .before .before .before .before .before .before .before .before .before in
-    let l = c .before .before .before .before .before .before .loop in
-    reading-missing (s .args .t1) (s .pre .0) (now (s .args .sheet)) (s .args .rounds) (l .fetches) (l .at) (c .before .before .before .before .before .before .before .before .rounds .k + 1) (c .before .before .before .before .reading .b) (c .before .before .before .before .reading .inv)
-    (c .before .before .before .reading-test .taken) (not-true _ (c .if1 .taken))
+    let t = c .before .before .before in
+    let out = not-true _ (c .if1 .taken) in
+    step.reading-missing (entry (t .before .before .before .before) .pre .0) (t .before .reading .inv) (t .reading-test .taken) out
 
 consume-requires : tie.Need-consume-requires Inv-loop μ-loop Inv-reading μ-reading Inv-rounds μ-rounds
 consume-requires c κs = omega arith
@@ -239,11 +218,10 @@ reading-less c = omega (arith, ap (λ b. b .next) (c .consume .ensures))
 
 reading-again : tie.Need-reading-again Inv-loop μ-loop Inv-reading μ-reading Inv-rounds μ-rounds
 reading-again c =
-    let s = c .before .before .before .before .before .before .before .before .before .before .before .before in
-    let l = c .before .before .before .before .before .before .before .loop in
-    subst (λ b. AtReading (s .args .t1) (now (s .args .sheet)) (s .args .rounds) (l .fetches) (l .at) (c .before .before .before .before .before .before .before .before .before .rounds .k + 1) b) (sym (c .consume .ensures))
-    (reading-more (s .args .t1) (s .pre .0) (now (s .args .sheet)) (s .args .rounds) (l .fetches) (l .at) (c .before .before .before .before .before .before .before .before .before .rounds .k + 1) (c .before .before .before .before .before .reading .b) (c .before .before .before .before .before .reading .inv)
-    (c .before .before .before .before .reading-test .taken) (not-false _ (c .before .if1 .left)))
+    let t = c .before .before .before .before in
+    let held = not-false _ (c .before .if1 .left) in
+    step.reading-same (c .consume .ensures)
+    (step.reading-more (entry (t .before .before .before .before) .pre .0) (t .before .reading .inv) (t .reading-test .taken) held)
 
 ending-requires : tie.Need-ending-requires Inv-loop μ-loop Inv-reading μ-reading Inv-rounds μ-rounds
 ending-requires c κs =
@@ -254,10 +232,8 @@ ending-requires c κs =
 
 returns-2 : tie.Need-returns-2 Inv-loop μ-loop Inv-reading μ-reading Inv-rounds μ-rounds
 returns-2 c =
-    let s = c .before .before .before .before .before in
-    let r = c .before .before .rounds in
     c .ending .ensures
-    ∙ ap checkedOf (rounds-over (s .args .t1) (s .pre .0) (now (s .args .sheet)) (s .args .rounds) (r .b) (r .fetches) (r .at) (r .k) (r .inv) (c .before .rounds-test .left))
+    ∙ ap checkedOf (step.rounds-over (c .before .before .before .before .before .pre .0) (c .before .before .rounds .inv) (c .before .rounds-test .left))
 
 pub play-spec : {M : Type 1} → statement M
 play-spec =
