@@ -36,14 +36,15 @@ notOn blocks disk d x = leb blocks x || not (eqb (getD disk x 0) d)
 abbrev pub heldOn : ℕ → List ℕ → List Bool → ℕ → ℕ → Bool
 heldOn blocks disk marks d z = ltb z blocks && eqb (getD disk z 0) d && isResident marks z
 
--- What follows the fetched block x, at the bit `at`; `full` says that every slot of disk d is taken.
+-- What follows the fetched block x, at the bit `at`: 13 where nothing is discarded though every slot of disk d is taken (`full`), 14 where the
+-- discarded block is not in its buffer.
 unfoldable pub discardAt : List ℕ → ℕ → ℕ → List ℕ → List Bool → ℕ → ℕ → Bool → Act
 unfolding fieldAt
 discardAt s at blocks disk marks d x full =
     onField (fieldAt s at 1) λ bit. cond (eqb bit 0) (cond full (Refused 13) (Fetch x))
     (onField (fieldAt s (at + 1) 9) λ z. cond (heldOn blocks disk marks d z) (Replace x z) (Refused 14))
 
--- The action of disk d at the bit `at`.
+-- The action of disk d at the bit `at`: 11 where the fetched block is not one of the disk's, 12 where it is already in the buffer.
 unfoldable pub actionAt : List ℕ → ℕ → ℕ → List ℕ → List Bool → ℕ → Bool → Act
 unfolding fieldAt discardAt
 actionAt s at blocks disk marks d full =
