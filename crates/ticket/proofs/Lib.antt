@@ -3,3 +3,4 @@ pub mod Closing
 pub mod Filling
 pub mod Parts
 pub mod Stages
+pub mod Laws

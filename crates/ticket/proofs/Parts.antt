@@ -5,7 +5,7 @@ use mathlib.Core.List.{List, [], _∷_, _++_}
 use Prim.Native.Nat.{ℕ, zero, suc, _+_, _-_, _*_, _≤_, _<_}
 use native.Mathlib.Nat.{suc-mul, sub-zero, suc-sub-suc, not-suc-le-zero}
 use native.Mathlib.Omega.{arith}
-use lib.ListN.{length, take, drop, set, replicate, length-replicate}
+use lib.ListN.{length, drop, set, replicate, length-replicate}
 use lib.Seq.{sets, sets-eq}
 use Rattle.bits.specs.Bits.{bits}
 use Rattle.bits.specs.Reading.{Read, got, stop, Reader, bind, _>>=_, _>>_, give, field, refuseIf, many}
@@ -172,3 +172,9 @@ module _ {A : Type 0} (t : List ℕ) (at : ℕ) (counts entries : Row) (size : �
   part-stop {p = p} (broken n left b e) q z =
       let same : p .number ≡ n = ap (λ (x : Part). x .number) q in
       subst (λ (m : ℕ). (l ≡ stop m) × Numbered m) (sym same) (e, b)
+
+  -- every refusal of a part has a number of a ticket's refusals, where what follows it does
+  pub part-numbered : {table : List ℕ} {f : Filled} {n : ℕ} → PartRead t at counts entries table more l f → l ≡ stop n
+      → ((count : ℕ) (vs : List ℕ) (next : ℕ) → more count vs (drop next (bits t)) ≡ stop n → Numbered n) → Numbered n
+  part-numbered (whole count next vs least below len pos e) q h = h count vs next (sym e ∙ q)
+  part-numbered {n = n} (broken m left b e) q h = let same : m ≡ n = cc in subst Numbered same b

@@ -2,26 +2,25 @@
 use mathlib.Core.Path.{_≡_, refl, sym, ap, _∙_, subst}
 use mathlib.Core.Bool.{Bool, true, false, _||_}
 use mathlib.Core.List.{List}
-use Prim.Native.Nat.{ℕ, suc, _+_, _*_, _≤_, _<_}
+use Prim.Native.Nat.{ℕ, _≤_}
 use native.Mathlib.Omega.{arith}
 use lib.Dec.{ltb, leb, eqb, lit<, lit≤}
-use lib.ListN.{length, drop, replicate}
+use lib.ListN.{drop, replicate}
 use borrow.Author.Tests.{lt-ltb, le-ltb, ltb-true, eq-eqb, eqb-true}
 use Rattle.bits.specs.Bits.{bits}
-use Rattle.bits.specs.Reading.{given, refused, stop, Reader, _>>=_, _>>_, give, field, refuseIf, many, closing, answer, readAll}
-use Rattle.bits.proofs.Reading.{then-ok, readAll-ok}
-use Rattle.bits.proofs.Logic.{same-test}
+use Rattle.bits.specs.Reading.{refused, Read, got, stop, Reader, _>>=_, _>>_, give, field, refuseIf, many, closing, answer, readAll}
+use Rattle.bits.proofs.Reading.{stop-got, refused-given, then-ok, readAll-ok}
+use Rattle.bits.proofs.Logic.{by-test, same-test}
 use Rattle.model.specs.Job.{Job}
 use Rattle.model.specs.Ticket.{slotsField, diskField, refField, ticketReader, ticketOf}
-use Rattle.job.specs.Meaning.{padTo, stored}
+use Rattle.job.specs.Meaning.{stored}
 use Rattle.ticket.specs.Meaning.{noTicket, answerOf, ticketRead}
-use Rattle.ticket.specs.Parts.{outside, disksRow, slotsRow, blocksRow, diskRow, refsRow, refRow, partAt, closes}
+use Rattle.ticket.specs.Parts.{disksRow, slotsRow, blocksRow, diskRow, refsRow, refRow, partAt, closes}
 use Rattle.ticket.specs.declared.Row.{Row}
 use Rattle.ticket.specs.declared.Part.{Part}
-use Rattle.ticket.specs.declared.Ticket.{Ticket}
 use Rattle.ticket.proofs.Entries.{entry-reads}
 use Rattle.ticket.proofs.Closing.{closing-open, closing-closed}
-use Rattle.ticket.proofs.Parts.{then-stop, Numbered, Reads, PartRead, part-reads, Got, part-got, part-stop}
+use Rattle.ticket.proofs.Parts.{then-stop, Numbered, Reads, PartRead, part-reads, Got, part-got, part-stop, part-numbered}
 
 -- the tests of the readers are those of the rows
 
@@ -55,6 +54,9 @@ afterDisks slots b disks = field 1 12 >>= λ n. refuseIf 6 (ltb 2048 n) >> (many
 
 abbrev pub afterSlots : ℕ → List ℕ → Reader Job
 afterSlots d slots = field 1 10 >>= λ b. refuseIf 4 (eqb b 0 || ltb 512 b) >> (many b (diskField d) >>= λ disks. afterDisks slots b disks)
+
+stop-same : {A : Type 0} {m n : ℕ} → _≡_ {A = Read A} (stop m) (stop n) → m ≡ n
+stop-same e = cc
 
 numbered : (n : ℕ) → 1 ≤ n → n ≤ 8 → Numbered n
 numbered n p q = record { some = p; few = q }
@@ -159,3 +161,22 @@ module _ (t : List ℕ) where
             refs = sym (c .held) i;
           };
         })
+
+  -- the numbers with which a ticket's reader stops
+  stop-numbered : (n : ℕ) → ticketReader (bits t) ≡ stop n → Numbered n
+  unfolding give
+  stop-numbered n e =
+      part-numbered t 0 disksRow slotsRow 8 afterSlots _ slots-part e λ d slots at e.
+      part-numbered t at blocksRow (diskRow d) 512 (afterDisks slots) _ (disks-part at d slots) e λ b disks at e.
+      part-numbered t at refsRow (refRow b) 2048 (afterRefs slots disks) _ (refs-part at b slots disks) e λ k refs at e.
+      by-test (closes t at)
+      (λ c. stop-got (sym e ∙ then-ok (closing 8) _ _ (closing-closed 8 at t c)))
+      (λ c. let same : 8 ≡ n = stop-same (sym (then-stop (closing 8) _ _ (closing-open 8 at t c)) ∙ e) in subst Numbered same (numbered 8 (lit≤ tt) (lit≤ tt)))
+
+  pub refused-numbered : (n : ℕ) → ticketOf t ≡ refused n → Numbered n
+  unfolding ticketOf readAll answer
+  refused-numbered n e = go (ticketReader (bits t)) refl e
+    where
+      go : (x : Read Job) → ticketReader (bits t) ≡ x → answer x ≡ refused n → Numbered n
+      go (got j rest) q p = refused-given (sym p)
+      go (stop m) q p = let same : m ≡ n = cc in stop-numbered n (q ∙ ap stop same)
