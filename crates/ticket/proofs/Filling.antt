@@ -55,10 +55,10 @@ going-start t at row count lent = record {
   rest = let e : count ≡ count - 0 = omega arith in ap (λ (k : ℕ). fill t at row count 0 k lent) e;
 }
 
-pub going-on : (t : List ℕ) (at : ℕ) (row : Row) (count : ℕ) (lent : List ℕ) (next i v : ℕ) (table : List ℕ) → row .width ≤ 12 → i < count
-    → entryAt t next row ≡ Held v → Going t at row count lent next i table
+pub going-on : {t : List ℕ} {at : ℕ} {row : Row} {count : ℕ} {lent : List ℕ} {next i v : ℕ} {table : List ℕ}
+    → row .width ≤ 12 → i < count → entryAt t next row ≡ Held v → Going t at row count lent next i table
     → Going t at row count lent (next + row .width) (i + 1) (set table i v)
-going-on t at row count lent next i v table w h e g = record {
+going-on {t} {at} {row} {count} {lent} {next} {i} {v} {table} w h e g = record {
   few = omega arith;
   near = omega arith;
   long = length-set table i v ∙ g .long;
@@ -70,15 +70,18 @@ going-on t at row count lent next i v table w h e g = record {
 both : (f : Filled) {p : Part} {table : List ℕ} → f ≡ record { part = p; table = table } → (p ≡ f .part) × (table ≡ f .table)
 both f e = (sym (ap (λ (x : Filled). x .part) e), sym (ap (λ (x : Filled). x .table) e))
 
-pub going-stopped : (t : List ℕ) (at : ℕ) (row : Row) (count : ℕ) (lent : List ℕ) (next i n : ℕ) (table : List ℕ) → i < count
-    → entryAt t next row ≡ Refused n → Going t at row count lent next i table
+pub going-stopped : {t : List ℕ} {at : ℕ} {row : Row} {count : ℕ} {lent : List ℕ} {next i n : ℕ} {table : List ℕ}
+    → i < count → entryAt t next row ≡ Refused n → Going t at row count lent next i table
     → (noPart n ≡ fill t at row count 0 count lent .part) × (table ≡ fill t at row count 0 count lent .table)
-going-stopped t at row count lent next i n table h e g = both (fill t at row count 0 count lent) (g .rest ∙ fill-refused t row count next i n table h e)
+going-stopped {t} {at} {row} {count} {lent} {next} {i} {n} {table} h e g =
+    both (fill t at row count 0 count lent) (g .rest ∙ fill-refused t row count next i n table h e)
 
-pub going-whole : (t : List ℕ) (at : ℕ) (row : Row) (count : ℕ) (lent : List ℕ) (next i : ℕ) (table : List ℕ) → count ≤ i
-    → Going t at row count lent next i table
-    → (record { number = 0; count = count; next = next } ≡ fill t at row count 0 count lent .part) × (table ≡ fill t at row count 0 count lent .table)
-going-whole t at row count lent next i table h g = both (fill t at row count 0 count lent) (g .rest ∙ fill-whole t row count next i table h)
+pub going-whole : {t : List ℕ} {at : ℕ} {row : Row} {count : ℕ} {lent : List ℕ} {next i : ℕ} {table : List ℕ}
+    → count ≤ i → Going t at row count lent next i table
+    → (record { number = 0; count = count; next = next } ≡ fill t at row count 0 count lent .part)
+    × (table ≡ fill t at row count 0 count lent .table)
+going-whole {t} {at} {row} {count} {lent} {next} {i} {table} h g =
+    both (fill t at row count 0 count lent) (g .rest ∙ fill-whole t row count next i table h)
 
 -- a part is its count, and then the entries
 

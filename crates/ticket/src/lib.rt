@@ -15,7 +15,7 @@ pub struct Ticket {
     pub job: Job,
 }
 
-// A row of document 01's table of ticket fields: its bits, its values from `least` up to below `limit`, and the number that refuses others.
+// A row of document 01's table of ticket fields: its bits, its values, from `least` on and below `limit`, and the number that refuses others.
 pub struct Row {
     pub width: usize,
     pub least: usize,
@@ -29,14 +29,15 @@ pub enum Entry {
     Refused(usize),
 }
 
-// What reading a part of a ticket gives, a count and then that many entries: 0, the count and the bit after the part, or the number that refuses it.
+// What reading a part of a ticket gives. A part is a count and then that many entries. 0, the count and the bit after the part; or the number
+// that refuses it.
 pub struct Part {
     pub number: usize,
     pub count: usize,
     pub next: usize,
 }
 
-// disks D
+// disks D: 1 to 8
 const DISKS: Row = Row {
     width: 4,
     least: 1,
@@ -44,7 +45,7 @@ const DISKS: Row = Row {
     number: 2,
 };
 
-// buffer slots of a disk
+// buffer slots of a disk: 1 to 64
 const SLOTS: Row = Row {
     width: 7,
     least: 1,
@@ -52,7 +53,7 @@ const SLOTS: Row = Row {
     number: 3,
 };
 
-// blocks B
+// blocks B: 1 to 512
 const BLOCKS: Row = Row {
     width: 10,
     least: 1,
@@ -60,7 +61,7 @@ const BLOCKS: Row = Row {
     number: 4,
 };
 
-// references N
+// references N: 0 to 2048
 const REFERENCES: Row = Row {
     width: 12,
     least: 0,
@@ -68,7 +69,7 @@ const REFERENCES: Row = Row {
     number: 6,
 };
 
-// the disk of a block
+// the disk of a block: 0 to D − 1
 fn disk_row(disks: usize) -> Row
     ensures { λ r. ⌜ r ≡ diskRow disks ⌝ }
 {
@@ -80,7 +81,7 @@ fn disk_row(disks: usize) -> Row
     }
 }
 
-// a reference, a block number
+// a reference, a block number: 0 to B − 1
 fn ref_row(blocks: usize) -> Row
     ensures { λ r. ⌜ r ≡ refRow blocks ⌝ }
 {
@@ -92,7 +93,7 @@ fn ref_row(blocks: usize) -> Row
     }
 }
 
-// A refused ticket.
+// A refused ticket has an empty job, whatever was read of it.
 fn refused(number: usize) -> Ticket
     ensures { λ r. ⌜ r ≡ noTicket number ⌝ }
 {

@@ -28,7 +28,8 @@ cast-table : tie.Need-cast-table Inv-loop μ-loop
 cast-table c =
     let loop = c .before .before .before .before .before in
     let args = loop .before .before .before .args in
-    let within = entry-within (now (args .t)) (loop .loop .next) (args .row) (sym (c .before .before .before .checked .ensures) ∙ c .before .v .given .1) in
+    let entry = sym (c .before .before .before .checked .ensures) ∙ c .before .v .given .1 in
+    let within = entry-within (now (args .t)) (loop .loop .next) (args .row) entry in
     omega (arith, within)
 
 mul-table : tie.Need-mul-table Inv-loop μ-loop
@@ -45,11 +46,9 @@ same-length c = c .before .before .before .before .before .loop .inv .long
 
 returns : tie.Need-returns Inv-loop μ-loop
 returns c =
-    let loop = c .before .before .before .before .before in
-    let args = loop .before .before .before .args in
+    let test = c .before .before .before .before in
     let entry = sym (c .before .before .before .checked .ensures) ∙ c .before .number .given .1 in
-    going-stopped (now (args .t)) (args .at) (args .row) (args .count) (now (args .table)) (loop .loop .next) (loop .loop .i) _ (loop .loop .table)
-    (c .before .before .before .before .loop-test .taken) entry (loop .loop .inv)
+    going-stopped (test .loop-test .taken) entry (test .before .loop .inv)
 
 add-next : tie.Need-add-next Inv-loop μ-loop
 add-next c = omega arith
@@ -62,21 +61,15 @@ loop-less c = omega arith
 
 loop-again : tie.Need-loop-again Inv-loop μ-loop
 loop-again c =
-    let loop = c .before .before .before .before .before .before in
-    let args = loop .before .before .before .args in
+    let test = c .before .before .before .before .before in
     let entry = sym (c .before .before .before .before .checked .ensures) ∙ c .before .before .v .given .1 in
-    going-on (now (args .t)) (args .at) (args .row) (args .count) (now (args .table)) (loop .loop .next) (loop .loop .i) _ (loop .loop .table)
-    (omega arith) (omega arith) entry (loop .loop .inv)
+    going-on (omega arith) (test .loop-test .taken) entry (test .before .loop .inv)
 
 same-length-2 : tie.Need-same-length-2 Inv-loop μ-loop
 same-length-2 c = c .before .loop .inv .long
 
 returns-2 : tie.Need-returns-2 Inv-loop μ-loop
-returns-2 c =
-    let loop = c .before in
-    let args = loop .before .before .before .args in
-    going-whole (now (args .t)) (args .at) (args .row) (args .count) (now (args .table)) (loop .loop .next) (loop .loop .i) (loop .loop .table)
-    (c .loop-test .left) (loop .loop .inv)
+returns-2 c = going-whole (c .loop-test .left) (c .before .loop .inv)
 
 pub fill-words-spec : {M : Type 1} → statement M
 fill-words-spec =
