@@ -24,7 +24,8 @@ module _ (t : List ℕ) (at : ℕ) (row : Row) where
   unfolding entryAt
   entry-ended e = ap (entryOf row) e
 
-  entry-tested : {v : ℕ} {b : Bool} → fieldAt t at (row .width) ≡ Value v → outside row v ≡ b → entryAt t at row ≡ pickEntry b (Refused (row .number)) (Held v)
+  entry-tested : {v : ℕ} {b : Bool} → fieldAt t at (row .width) ≡ Value v → outside row v ≡ b
+      → entryAt t at row ≡ pickEntry b (Refused (row .number)) (Held v)
   unfolding entryAt
   entry-tested {v} e o = ap (entryOf row) e ∙ ap (λ (b : Bool). pickEntry b (Refused (row .number)) (Held v)) o
 
@@ -72,7 +73,8 @@ entry-reads {A} t at row test more p same =
     rest : List ℕ
     rest = drop (at + row .width) (bits t)
 
-    tested : (v : ℕ) (b : Bool) → bind (refuseIf (row .number) b rest) (λ u. more v) ≡ entryThen rest more (pickEntry b (Refused (row .number)) (Held v))
+    tested : (v : ℕ) (b : Bool)
+        → bind (refuseIf (row .number) b rest) (λ u. more v) ≡ entryThen rest more (pickEntry b (Refused (row .number)) (Held v))
     tested v true = refl
     tested v false = refl
 

@@ -20,7 +20,8 @@ module _ (t : List ℕ) (row : Row) (count : ℕ) where
   fill-next at i table h =
       let e : count - i ≡ suc (count - (i + 1)) = omega arith in
       ap (λ (k : ℕ). fill t at row count i k table) e
-      ∙ ap (λ (j : ℕ). filledBy (entryAt t at row) table (λ v. fill t (at + row .width) row count j (count - (i + 1)) (set table i v))) (sym (add-one i))
+      ∙ ap (λ (j : ℕ). filledBy (entryAt t at row) table (λ v. fill t (at + row .width) row count j (count - (i + 1)) (set table i v)))
+      (sym (add-one i))
 
   pub fill-value : (at i v : ℕ) (table : List ℕ) → i < count → entryAt t at row ≡ Held v
       → fill t at row count i (count - i) table ≡ fill t (at + row .width) row count (i + 1) (count - (i + 1)) (set table i v)
@@ -36,7 +37,8 @@ module _ (t : List ℕ) (row : Row) (count : ℕ) where
       fill-next at i table h
       ∙ ap (λ (x : Entry). filledBy x table (λ v. fill t (at + row .width) row count (i + 1) (count - (i + 1)) (set table i v))) e
 
-  pub fill-whole : (at i : ℕ) (table : List ℕ) → count ≤ i → fill t at row count i (count - i) table ≡ record { part = record { number = 0; count = count; next = at }; table = table }
+  pub fill-whole : (at i : ℕ) (table : List ℕ) → count ≤ i
+      → fill t at row count i (count - i) table ≡ record { part = record { number = 0; count = count; next = at }; table = table }
   unfolding fill
   fill-whole at i table h = let e : count - i ≡ 0 = omega arith in ap (λ (k : ℕ). fill t at row count i k table) e
 

@@ -1,4 +1,4 @@
--- What the value that reading a ticket gives says of the ticket: 0 with the job that it says, or the number with which it is refused. Assumes nothing.
+-- What the value that was read says of the ticket: 0 and the job that the ticket says, or the number with which it is refused. Assumes nothing.
 use mathlib.Core.Path.{_≡_, refl, sym, ap, _∙_, subst}
 use mathlib.Core.List.{List}
 use Prim.Native.Nat.{ℕ, _≤_}

@@ -87,13 +87,15 @@ module _ (t : List ℕ) (row : Row) (r : Reader ℕ) (count : ℕ) where
       (λ v. fill-reads h b (at + row .width) (suc i) k (set table i v))
 
 -- A part as its reader reads it, beside the part that is read into a table: it goes on with the count and the entries, or ends with the refusal.
-pub data PartRead {A : Type 0} (t : List ℕ) (at : ℕ) (counts entries : Row) (table : List ℕ) (more : ℕ → List ℕ → Reader A) (l : Read A) : Filled → Type 0 where
+pub data PartRead {A : Type 0} (t : List ℕ) (at : ℕ) (counts entries : Row) (table : List ℕ) (more : ℕ → List ℕ → Reader A) (l : Read A)
+    : Filled → Type 0 where
   whole : (count next : ℕ) (vs : List ℕ) → counts .least ≤ count → count < counts .limit → length vs ≡ count
       → next ≡ at + counts .width + count * entries .width → l ≡ more count vs (drop next (bits t))
       → PartRead t at counts entries table more l (record { part = record { number = 0; count = count; next = next }; table = sets table 0 vs })
   broken : (n : ℕ) (left : List ℕ) → Numbered n → l ≡ stop n → PartRead t at counts entries table more l (record { part = noPart n; table = left })
 
-module _ {A : Type 0} (t : List ℕ) (at : ℕ) (counts entries : Row) (table : List ℕ) (test : ℕ → Bool) (r : Reader ℕ) (more : ℕ → List ℕ → Reader A) where
+module _ {A : Type 0} (t : List ℕ) (at : ℕ) (counts entries : Row) (table : List ℕ) (test : ℕ → Bool) (r : Reader ℕ)
+    (more : ℕ → List ℕ → Reader A) where
   -- the part as a reader
   abbrev pub partReader : Reader A
   partReader = field 1 (counts .width) >>= λ n. refuseIf (counts .number) (test n) >> (many n r >>= λ vs. more n vs)
@@ -105,7 +107,8 @@ module _ {A : Type 0} (t : List ℕ) (at : ℕ) (counts entries : Row) (table : 
   part-filled l n p q e (whole vs next len pos g) = whole n next vs p q len pos (e ∙ bind-ok (many n r) _ _ g)
   part-filled l n p q e (broken m left h g) = broken m left h (e ∙ bind-stop (many n r) _ _ g)
 
-  pub part-reads : 0 < counts .width → ((v : ℕ) → test v ≡ outside counts v) → Numbered (counts .number) → Numbered (entries .number) → Reads t entries r
+  pub part-reads : 0 < counts .width → ((v : ℕ) → test v ≡ outside counts v) → Numbered (counts .number) → Numbered (entries .number)
+      → Reads t entries r
       → PartRead t at counts entries table more (partReader (drop at (bits t))) (partAt t at counts entries table)
   unfolding partAt filledBy entryThen
   part-reads p same c b h =
@@ -141,7 +144,8 @@ sets-zeros n vs h =
     ∙ ap (λ (l : List ℕ). vs ++ l) (drop-zeros (length vs) n h)
 
 -- A part that was read into a table of `size` zeros: its reader has the count and the entries, and goes on after the part.
-pub record Got {A : Type 0} (t : List ℕ) (at : ℕ) (counts entries : Row) (size : ℕ) (more : ℕ → List ℕ → Reader A) (l : Read A) (p : Part) (table : List ℕ) : Type 0 where
+pub record Got {A : Type 0} (t : List ℕ) (at : ℕ) (counts entries : Row) (size : ℕ) (more : ℕ → List ℕ → Reader A) (l : Read A)
+    (p : Part) (table : List ℕ) : Type 0 where
   pub values : List ℕ
   pub least : counts .least ≤ p .count
   pub below : p .count < counts .limit

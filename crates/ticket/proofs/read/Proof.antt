@@ -8,7 +8,8 @@ use borrow.Author.Tests.{not-true, not-false}
 use denote.Ref.{now}
 use Rattle.ticket.specs.declared.Row.{Row}
 use Rattle.ticket.specs.declared.Part.{Part}
-use Rattle.ticket.proofs.Stages.{Slots, Disks, Refs, slots-got, slots-refused, disks-got, disks-refused, refs-got, refs-refused, open-refused, accepted}
+use Rattle.ticket.proofs.Stages.{Slots, Disks, Refs, slots-got, disks-got, refs-got}
+use Rattle.ticket.proofs.Stages.{slots-refused, disks-refused, refs-refused, open-refused, accepted}
 use Rattle.ticket.proofs.read.Statement.{statement}
 use Rattle.ticket.proofs.read.Tie as tie
 
@@ -39,7 +40,8 @@ disks-read : (c : tie.Else2) → Disks (ticket (one c)) (first (one c)) (slots-r
 disks-read c =
     let a = one c in
     let part = c .before .before .before .bytes-part2 .ensures in
-    disks-got (ticket a) (first a) (slots a) (slots-read a) _ (c .before .before .before .before .before .disk-row .ensures) (part .0) (part .1) (c .if2 .left)
+    let row = c .before .before .before .before .before .disk-row .ensures in
+    disks-got (ticket a) (first a) (slots a) (slots-read a) _ row (part .0) (part .1) (c .if2 .left)
 
 abbrev two : tie.Else3 → tie.Else2
 two c = c .before .before .before .before .before .before
@@ -56,8 +58,8 @@ refs-read c =
     let b = two c in
     let a = one b in
     let part = c .before .before .before .words-part .ensures in
-    refs-got (ticket a) (first a) (slots a) (slots-read a) (second b) (disk b) (disks-read b) _ (c .before .before .before .before .before .ref-row .ensures)
-    (part .0) (part .1) (c .if3 .left)
+    let row = c .before .before .before .before .before .ref-row .ensures in
+    refs-got (ticket a) (first a) (slots a) (slots-read a) (second b) (disk b) (disks-read b) _ row (part .0) (part .1) (c .if3 .left)
 
 slice-aggregate-bytes-part : tie.Need-slice-aggregate-bytes-part
 slice-aggregate-bytes-part c = search needs
@@ -95,7 +97,8 @@ returns-2 c =
     let part = c .before .before .before .before in
     let a = part .before .before .before in
     c .refused2 .ensures
-    ∙ sym (disks-refused (ticket a) (first a) (slots a) (slots-read a) _ (part .before .before .disk-row .ensures) (part .bytes-part2 .ensures .0) (c .before .if2 .taken))
+    ∙ sym (disks-refused (ticket a) (first a) (slots a) (slots-read a) _ (part .before .before .disk-row .ensures)
+    (part .bytes-part2 .ensures .0) (c .before .if2 .taken))
 
 ref-row-requires : tie.Need-ref-row-requires
 ref-row-requires c κs = search needs

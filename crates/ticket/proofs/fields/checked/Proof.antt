@@ -24,21 +24,24 @@ returns-2 : tie.Need-returns-2
 returns-2 c =
     let known = c .before .before .before in
     let args = known .before .before .before .before .args in
-    sym (entry-low (now (args .t)) (args .at) (args .row) _ (sym (known .before .before .field .ensures) ∙ known .v .given .1) (c .if1 .taken))
+    let value = sym (known .before .before .field .ensures) ∙ known .v .given .1 in
+    sym (entry-low (now (args .t)) (args .at) (args .row) _ value (c .if1 .taken))
 
 returns-3 : tie.Need-returns-3
 returns-3 c =
     let low = c .before .before in
     let known = low .before .before .before in
     let args = known .before .before .before .before .args in
-    sym (entry-high (now (args .t)) (args .at) (args .row) _ (sym (known .before .before .field .ensures) ∙ known .v .given .1) (low .if1 .left) (c .if2 .taken))
+    let value = sym (known .before .before .field .ensures) ∙ known .v .given .1 in
+    sym (entry-high (now (args .t)) (args .at) (args .row) _ value (low .if1 .left) (c .if2 .taken))
 
 returns-4 : tie.Need-returns-4
 returns-4 c =
     let low = c .before .before in
     let known = low .before .before .before in
     let args = known .before .before .before .before .args in
-    sym (entry-value (now (args .t)) (args .at) (args .row) _ (sym (known .before .before .field .ensures) ∙ known .v .given .1) (low .if1 .left) (c .if2 .left))
+    let value = sym (known .before .before .field .ensures) ∙ known .v .given .1 in
+    sym (entry-value (now (args .t)) (args .at) (args .row) _ value (low .if1 .left) (c .if2 .left))
 
 pub checked-spec : {M : Type 1} → statement M
 checked-spec = tie.close (tie.spec field-requires enum-known-v enum-told returns returns-2 returns-3 returns-4)

@@ -37,14 +37,15 @@ returns c =
     let count = filled .before .before .before .before in
     let checked = count .before .before in
     let args = checked .before .before .before .args in
-    part-entries (now (args .t)) (args .at) (args .counts) (args .entries) (now (args .table)) (sym (checked .checked .ensures) ∙ count .count .given .1)
-    (filled .fill-words .ensures)
+    let entry = sym (checked .checked .ensures) ∙ count .count .given .1 in
+    part-entries (now (args .t)) (args .at) (args .counts) (args .entries) (now (args .table)) entry (filled .fill-words .ensures)
 
 returns-2 : tie.Need-returns-2
 returns-2 c =
     let checked = c .before .before .before in
     let args = checked .before .before .before .args in
-    part-refused (now (args .t)) (args .at) (args .counts) (args .entries) (now (args .table)) (sym (checked .checked .ensures) ∙ c .before .number .given .1)
+    let entry = sym (checked .checked .ensures) ∙ c .before .number .given .1 in
+    part-refused (now (args .t)) (args .at) (args .counts) (args .entries) (now (args .table)) entry
 
 pub words-part-spec : {M : Type 1} → statement M
 words-part-spec =
