@@ -1,0 +1,6 @@
+pub mod Entries
+pub mod Closing
+pub mod Filling
+pub mod Parts
+pub mod Stages
+pub mod Laws

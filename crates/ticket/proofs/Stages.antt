@@ -1,0 +1,200 @@
+-- A ticket part by part: disks and slots, blocks and their disks, references, the closing bits. Assumes nothing.
+use mathlib.Core.Path.{_≡_, refl, sym, ap, _∙_, subst}
+use mathlib.Core.Bool.{Bool, true, false, _||_}
+use mathlib.Core.List.{List}
+use Prim.Native.Nat.{ℕ, _≤_}
+use native.Mathlib.Omega.{arith}
+use lib.Dec.{ltb, leb, eqb, lit<, lit≤}
+use lib.ListN.{drop, replicate}
+use borrow.Author.Tests.{lt-ltb, le-ltb, ltb-true, eq-eqb, eqb-true}
+use Rattle.bits.specs.Bits.{bits}
+use Rattle.bits.specs.Reading.{refused, Read, got, stop, Reader, _>>=_, _>>_, give, field, refuseIf, many, closing, answer, readAll}
+use Rattle.bits.proofs.Reading.{stop-got, refused-given, then-ok, readAll-ok}
+use Rattle.bits.proofs.Logic.{by-test, same-test}
+use Rattle.model.specs.Job.{Job}
+use Rattle.model.specs.Ticket.{slotsField, diskField, refField, ticketReader, ticketOf}
+use Rattle.job.specs.Meaning.{stored}
+use Rattle.ticket.specs.Meaning.{noTicket, answerOf, ticketRead}
+use Rattle.ticket.specs.Parts.{disksRow, slotsRow, blocksRow, diskRow, refsRow, refRow, Filled, partAt, closes}
+use Rattle.ticket.specs.declared.Row.{Row}
+use Rattle.ticket.specs.declared.Part.{Part}
+use Rattle.ticket.proofs.Entries.{entry-reads}
+use Rattle.ticket.proofs.Closing.{closing-open, closing-closed}
+use Rattle.ticket.proofs.Parts.{then-stop, Numbered, Reads, PartRead, part-reads, Got, part-got, part-stop, part-numbered}
+
+-- the tests of the readers are those of the rows
+
+some-test : (k v : ℕ) → eqb v 0 || leb k v ≡ ltb v 1 || leb k v
+some-test k v =
+    ap (λ (b : Bool). b || leb k v)
+    (same-test (eqb v 0) (ltb v 1)
+    (λ e. (let z = eqb-true v 0 e in lt-ltb v 1 (omega (arith, z))))
+    (λ e. (let z = ltb-true v 1 e in eq-eqb v 0 (omega (arith, z)))))
+
+any-test : (k v : ℕ) → leb k v ≡ ltb v 0 || leb k v
+any-test k v = rw (le-ltb v 0 (omega arith))
+
+slots-reads : (t : List ℕ) → Reads t slotsRow slotsField
+unfolding slotsField
+slots-reads t = record { reads = λ at. entry-reads t at slotsRow (λ v. eqb v 0 || ltb 64 v) give (lit< tt) (some-test 65) }
+
+disk-reads : (t : List ℕ) (d : ℕ) → Reads t (diskRow d) (diskField d)
+unfolding diskField
+disk-reads t d = record { reads = λ at. entry-reads t at (diskRow d) (λ v. leb d v) give (lit< tt) (any-test d) }
+
+ref-reads : (t : List ℕ) (b : ℕ) → Reads t (refRow b) (refField b)
+unfolding refField
+ref-reads t b = record { reads = λ at. entry-reads t at (refRow b) (λ v. leb b v) give (lit< tt) (any-test b) }
+
+-- what is read after each part
+
+abbrev pub afterRefs : List ℕ → List ℕ → ℕ → List ℕ → Reader Job
+afterRefs slots disks n refs = closing 8 >> give (record { slots = slots; disks = disks; refs = refs })
+
+abbrev pub afterDisks : List ℕ → ℕ → List ℕ → Reader Job
+afterDisks slots b disks = field 1 12 >>= λ n. refuseIf 6 (ltb 2048 n) >> (many n (refField b) >>= λ refs. afterRefs slots disks n refs)
+
+abbrev pub afterSlots : ℕ → List ℕ → Reader Job
+afterSlots d slots = field 1 10 >>= λ b. refuseIf 4 (eqb b 0 || ltb 512 b) >> (many b (diskField d) >>= λ disks. afterDisks slots b disks)
+
+stop-same : {A : Type 0} {m n : ℕ} → _≡_ {A = Read A} (stop m) (stop n) → m ≡ n
+stop-same e = cc
+
+-- the three parts, each read into a table of zeros
+
+abbrev pub slotsPart : List ℕ → Filled
+slotsPart t = partAt t 0 disksRow slotsRow (replicate 8 0)
+
+abbrev pub disksPart : List ℕ → ℕ → Row → Filled
+disksPart t at row = partAt t at blocksRow row (replicate 512 0)
+
+abbrev pub refsPart : List ℕ → ℕ → Row → Filled
+refsPart t at row = partAt t at refsRow row (replicate 2048 0)
+
+numbered : (n : ℕ) → 1 ≤ n → n ≤ 8 → Numbered n
+numbered n p q = record { some = p; few = q }
+
+module _ (t : List ℕ) where
+  slots-part : PartRead t 0 disksRow slotsRow (replicate 8 0) afterSlots (ticketReader (bits t)) (slotsPart t)
+  unfolding ticketReader
+  slots-part =
+      part-reads t 0 disksRow slotsRow (replicate 8 0) (λ v. eqb v 0 || ltb 8 v) slotsField afterSlots (lit< tt) (some-test 9)
+      (numbered 2 (lit≤ tt) (lit≤ tt)) (numbered 3 (lit≤ tt) (lit≤ tt)) (slots-reads t)
+
+  disks-part : (at d : ℕ) (slots : List ℕ)
+      → PartRead t at blocksRow (diskRow d) (replicate 512 0) (afterDisks slots) (afterSlots d slots (drop at (bits t)))
+      (disksPart t at (diskRow d))
+  disks-part at d slots =
+      part-reads t at blocksRow (diskRow d) (replicate 512 0) (λ v. eqb v 0 || ltb 512 v) (diskField d) (afterDisks slots) (lit< tt) (some-test 513)
+      (numbered 4 (lit≤ tt) (lit≤ tt)) (numbered 5 (lit≤ tt) (lit≤ tt)) (disk-reads t d)
+
+  refs-part : (at b : ℕ) (slots disks : List ℕ)
+      → PartRead t at refsRow (refRow b) (replicate 2048 0) (afterRefs slots disks) (afterDisks slots b disks (drop at (bits t)))
+      (refsPart t at (refRow b))
+  refs-part at b slots disks =
+      part-reads t at refsRow (refRow b) (replicate 2048 0) (λ v. ltb 2048 v) (refField b) (afterRefs slots disks) (lit< tt) (any-test 2049)
+      (numbered 6 (lit≤ tt) (lit≤ tt)) (numbered 7 (lit≤ tt) (lit≤ tt)) (ref-reads t b)
+
+  -- each part, read
+  abbrev pub Slots : Part → List ℕ → Type 0
+  Slots p slots = Got t 0 disksRow slotsRow 8 afterSlots (ticketReader (bits t)) p slots
+
+  abbrev pub Disks : Part → List ℕ → Part → List ℕ → Type 0
+  Disks p values q disk =
+      Got t (p .next) blocksRow (diskRow (p .count)) 512 (afterDisks values) (afterSlots (p .count) values (drop (p .next) (bits t))) q disk
+
+  abbrev pub Refs : List ℕ → Part → List ℕ → Part → List ℕ → Type 0
+  Refs slots q values r refs =
+      Got t (q .next) refsRow (refRow (q .count)) 2048 (afterRefs slots values) (afterDisks slots (q .count) values (drop (q .next) (bits t))) r refs
+
+  -- a refusal by the reader
+  stopped : (n : ℕ) → ticketReader (bits t) ≡ stop n → ticketRead t ≡ noTicket n
+  unfolding ticketRead answerOf ticketOf readAll answer
+  stopped n e = ap (λ x. answerOf (answer x)) e
+
+  pub slots-got : {p : Part} {slots : List ℕ} → p ≡ slotsPart t .part → slots ≡ slotsPart t .table
+      → p .number ≡ 0 → Slots p slots
+  slots-got q s z = part-got t 0 disksRow slotsRow 8 afterSlots (ticketReader (bits t)) (lit≤ tt) slots-part q s z
+
+  pub slots-refused : {p : Part} → p ≡ slotsPart t .part → (p .number ≡ 0 → ⊥) → ticketRead t ≡ noTicket (p .number)
+  slots-refused {p} q z = stopped (p .number) (part-stop t 0 disksRow slotsRow 8 afterSlots (ticketReader (bits t)) slots-part q z .0)
+
+  module _ (p : Part) (slots : List ℕ) (a : Slots p slots) (row : Row) (is : row ≡ diskRow (p .count)) where
+    pub disks-got : {q : Part} {disk : List ℕ} → q ≡ disksPart t (p .next) row .part
+        → disk ≡ disksPart t (p .next) row .table → q .number ≡ 0 → Disks p (a .values) q disk
+    disks-got e s z =
+        part-got t (p .next) blocksRow (diskRow (p .count)) 512 (afterDisks (a .values)) _ (lit≤ tt) (disks-part (p .next) (p .count) (a .values))
+        (e ∙ ap (λ (x : Row). disksPart t (p .next) x .part) is)
+        (s ∙ ap (λ (x : Row). disksPart t (p .next) x .table) is) z
+
+    pub disks-refused : {q : Part} → q ≡ disksPart t (p .next) row .part → (q .number ≡ 0 → ⊥) → ticketRead t ≡ noTicket (q .number)
+    disks-refused {q} e z =
+        stopped (q .number)
+        (a .goes
+        ∙ part-stop t (p .next) blocksRow (diskRow (p .count)) 512 (afterDisks (a .values)) _ (disks-part (p .next) (p .count) (a .values))
+        (e ∙ ap (λ (x : Row). disksPart t (p .next) x .part) is) z .0)
+
+  module _ (p : Part) (slots : List ℕ) (a : Slots p slots) (q : Part) (disk : List ℕ) (b : Disks p (a .values) q disk)
+      (row : Row) (is : row ≡ refRow (q .count)) where
+    pub refs-got : {r : Part} {refs : List ℕ} → r ≡ refsPart t (q .next) row .part
+        → refs ≡ refsPart t (q .next) row .table → r .number ≡ 0 → Refs (a .values) q (b .values) r refs
+    refs-got e s z =
+        part-got t (q .next) refsRow (refRow (q .count)) 2048 (afterRefs (a .values) (b .values)) _ (lit≤ tt)
+        (refs-part (q .next) (q .count) (a .values) (b .values))
+        (e ∙ ap (λ (x : Row). refsPart t (q .next) x .part) is)
+        (s ∙ ap (λ (x : Row). refsPart t (q .next) x .table) is) z
+
+    pub refs-refused : {r : Part} → r ≡ refsPart t (q .next) row .part → (r .number ≡ 0 → ⊥) → ticketRead t ≡ noTicket (r .number)
+    refs-refused {r} e z =
+        stopped (r .number)
+        (a .goes ∙ b .goes
+        ∙ part-stop t (q .next) refsRow (refRow (q .count)) 2048 (afterRefs (a .values) (b .values)) _
+        (refs-part (q .next) (q .count) (a .values) (b .values))
+        (e ∙ ap (λ (x : Row). refsPart t (q .next) x .part) is) z .0)
+
+  module _ (p : Part) (slots : List ℕ) (a : Slots p slots) (q : Part) (disk : List ℕ) (b : Disks p (a .values) q disk)
+      (r : Part) (refs : List ℕ) (c : Refs (a .values) q (b .values) r refs) where
+    ends : ticketReader (bits t) ≡ afterRefs (a .values) (b .values) (r .count) (c .values) (drop (r .next) (bits t))
+    ends = a .goes ∙ b .goes ∙ c .goes
+
+    pub open-refused : closes t (r .next) ≡ false → ticketRead t ≡ noTicket 8
+    open-refused e = stopped 8 (ends ∙ then-stop (closing 8) _ _ (closing-open 8 (r .next) t e))
+
+    pub accepted : closes t (r .next) ≡ true → ticketRead t ≡ record {
+      number = 0;
+      job = record { disks = p .count; slots = slots; blocks = q .count; disk = disk; count = r .count; refs = refs };
+    }
+    unfolding ticketRead answerOf ticketOf stored give
+    accepted e =
+        ap answerOf (readAll-ok ticketReader t (ends ∙ then-ok (closing 8) _ _ (closing-closed 8 (r .next) t e)))
+        ∙ (λ i. record {
+          number = 0;
+          job = record {
+            disks = a .long i;
+            slots = sym (a .held) i;
+            blocks = b .long i;
+            disk = sym (b .held) i;
+            count = c .long i;
+            refs = sym (c .held) i;
+          };
+        })
+
+  -- the numbers with which a ticket's reader stops
+  stop-numbered : (n : ℕ) → ticketReader (bits t) ≡ stop n → Numbered n
+  unfolding give
+  stop-numbered n e =
+      part-numbered t 0 disksRow slotsRow 8 afterSlots _ slots-part e λ d slots at e.
+      part-numbered t at blocksRow (diskRow d) 512 (afterDisks slots) _ (disks-part at d slots) e λ b disks at e.
+      part-numbered t at refsRow (refRow b) 2048 (afterRefs slots disks) _ (refs-part at b slots disks) e λ k refs at e.
+      by-test (closes t at)
+      (λ c. stop-got (sym e ∙ then-ok (closing 8) _ _ (closing-closed 8 at t c)))
+      (λ c. let same : 8 ≡ n = stop-same (sym (then-stop (closing 8) _ _ (closing-open 8 at t c)) ∙ e) in
+      subst Numbered same (numbered 8 (lit≤ tt) (lit≤ tt)))
+
+  pub refused-numbered : (n : ℕ) → ticketOf t ≡ refused n → Numbered n
+  unfolding ticketOf readAll answer
+  refused-numbered n e = go (ticketReader (bits t)) refl e
+    where
+      go : (x : Read Job) → ticketReader (bits t) ≡ x → answer x ≡ refused n → Numbered n
+      go (got j rest) q p = refused-given (sym p)
+      go (stop m) q p = let same : m ≡ n = cc in stop-numbered n (q ∙ ap stop same)

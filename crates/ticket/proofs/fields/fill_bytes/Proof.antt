@@ -1,0 +1,90 @@
+-- `ticket::fields::fill_bytes` meets its contract. The invariant: the answer is what the rest gives from here. Assumes nothing.
+use borrow.Author.Needs.{needs}
+use mathlib.Core.Path.{sym, _∙_}
+use Prim.Native.Nat.{_-_}
+use native.Mathlib.Omega.{arith}
+use denote.Ref.{now}
+use Rattle.ticket.proofs.Entries.{entry-within}
+use Rattle.ticket.proofs.Filling.{Going, going-start, going-on, going-stopped, going-whole}
+use Rattle.ticket.proofs.fields.fill_bytes.Statement.{statement}
+use Rattle.ticket.proofs.fields.fill_bytes.Tie as tie
+
+abbrev Inv-loop : tie.InvT-loop
+Inv-loop t at row count table₀ next₀ i₀ table next i = Going t at row count table₀ next i table
+
+abbrev μ-loop : tie.MeasureT-loop
+μ-loop t at row count table₀ next₀ i₀ table next i = count - i
+
+loop-holds : tie.Need-loop-holds Inv-loop μ-loop
+loop-holds c = let args = c .before .before .args in going-start (now (args .t)) (args .at) (args .row) (args .count) (now (args .table))
+
+checked-requires : tie.Need-checked-requires Inv-loop μ-loop
+checked-requires c κs = omega arith
+
+enum-known-v : tie.Need-enum-known-v Inv-loop μ-loop
+enum-known-v c = search needs
+
+cast-table : tie.Need-cast-table Inv-loop μ-loop
+cast-table c =
+    let loop = c .before .before .before .before .before in
+    let args = loop .before .before .before .args in
+    let entry = sym (c .before .before .before .checked .ensures) ∙ c .before .v .given .1 in
+    let within = entry-within (now (args .t)) (loop .loop .next) (args .row) entry in
+    omega (arith, within)
+
+slice-write-table : tie.Need-slice-write-table Inv-loop μ-loop
+slice-write-table c = omega arith
+
+enum-known-number : tie.Need-enum-known-number Inv-loop μ-loop
+enum-known-number c = search needs
+
+same-length : tie.Need-same-length Inv-loop μ-loop
+same-length c = c .before .before .before .before .before .loop .inv .long
+
+returns : tie.Need-returns Inv-loop μ-loop
+returns c =
+    let test = c .before .before .before .before in
+    let entry = sym (c .before .before .before .checked .ensures) ∙ c .before .number .given .1 in
+    going-stopped (test .loop-test .taken) entry (test .before .loop .inv)
+
+add-next : tie.Need-add-next Inv-loop μ-loop
+add-next c = omega arith
+
+add-i : tie.Need-add-i Inv-loop μ-loop
+add-i c = omega arith
+
+loop-less : tie.Need-loop-less Inv-loop μ-loop
+loop-less c = omega arith
+
+loop-again : tie.Need-loop-again Inv-loop μ-loop
+loop-again c =
+    let test = c .before .before .before .before .before in
+    let entry = sym (c .before .before .before .before .checked .ensures) ∙ c .before .before .v .given .1 in
+    going-on (omega arith) (test .loop-test .taken) entry (test .before .loop .inv)
+
+same-length-2 : tie.Need-same-length-2 Inv-loop μ-loop
+same-length-2 c = c .before .loop .inv .long
+
+returns-2 : tie.Need-returns-2 Inv-loop μ-loop
+returns-2 c = going-whole (c .loop-test .left) (c .before .loop .inv)
+
+pub fill-bytes-spec : {M : Type 1} → statement M
+fill-bytes-spec =
+    tie.close
+    (tie.spec
+    Inv-loop
+    μ-loop
+    loop-holds
+    checked-requires
+    enum-known-v
+    cast-table
+    slice-write-table
+    enum-known-number
+    same-length
+    returns
+    add-next
+    add-i
+    loop-less
+    loop-again
+    same-length-2
+    returns-2)

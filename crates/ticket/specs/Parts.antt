@@ -1,0 +1,80 @@
+-- A ticket's parts, read from a position on: each is a count and then that many entries. Assumes nothing.
+use mathlib.Core.Bool.{Bool, true, false, _&&_, _||_}
+use mathlib.Core.List.{List}
+use Prim.Native.Nat.{ℕ, zero, suc, _+_}
+use lib.Dec.{ltb, leb}
+use lib.ListN.{length, drop, set}
+use Rattle.bits.specs.Bits.{bits}
+use Rattle.bits.specs.Reading.{allZero}
+use Rattle.bits.specs.Fields.{fieldAt}
+use Rattle.bits.specs.declared.Field.{Field}
+use Rattle.bits.specs.declared.Field.the-variants.{Value, Ended}
+use Rattle.ticket.specs.declared.Row.{Row}
+use Rattle.ticket.specs.declared.Part.{Part}
+use Rattle.ticket.specs.declared.Entry.{Entry}
+use Rattle.ticket.specs.declared.Entry.the-variants.{Value as Held, Refused}
+
+-- The rows of document 01's table, each with the number that refuses other values.
+abbrev pub disksRow : Row
+disksRow = record { width = 4; least = 1; limit = 9; number = 2 }
+
+abbrev pub slotsRow : Row
+slotsRow = record { width = 7; least = 1; limit = 65; number = 3 }
+
+abbrev pub blocksRow : Row
+blocksRow = record { width = 10; least = 1; limit = 513; number = 4 }
+
+abbrev pub diskRow : ℕ → Row
+diskRow disks = record { width = 3; least = 0; limit = disks; number = 5 }
+
+abbrev pub refsRow : Row
+refsRow = record { width = 12; least = 0; limit = 2049; number = 6 }
+
+abbrev pub refRow : ℕ → Row
+refRow blocks = record { width = 9; least = 0; limit = blocks; number = 7 }
+
+-- A value that is not among those of its row.
+abbrev pub outside : Row → ℕ → Bool
+outside row v = ltb v (row .least) || leb (row .limit) v
+
+abbrev pub pickEntry : Bool → Entry → Entry → Entry
+pickEntry true a b = a
+pickEntry false a b = b
+
+-- A field tested as its row says: 1 where the ticket ends inside it comes before the row's own number.
+unfoldable pub entryOf : Row → Field → Entry
+entryOf row (Value v) = pickEntry (outside row v) (Refused (row .number)) (Held v)
+entryOf row Ended = Refused 1
+
+-- The field of a row at the bit `at`.
+unfoldable pub entryAt : List ℕ → ℕ → Row → Entry
+unfolding entryOf
+entryAt t at row = entryOf row (fieldAt t at (row .width))
+
+-- A part that was read, and the table that its entries are written into.
+pub record Filled : Type 0 where
+  pub part : Part
+  pub table : List ℕ
+
+abbrev pub noPart : ℕ → Part
+noPart n = record { number = n; count = 0; next = 0 }
+
+-- A refusal ends the part, and leaves the table as it is; a value goes on.
+unfoldable pub filledBy : Entry → List ℕ → (ℕ → Filled) → Filled
+filledBy (Held v) table more = more v
+filledBy (Refused n) table more = record { part = noPart n; table = table }
+
+-- k entries of a row, from the bit `at` on, each written after the one before it, the first at i; of a part of `count` entries.
+unfoldable pub fill : List ℕ → ℕ → Row → ℕ → ℕ → ℕ → List ℕ → Filled
+unfolding filledBy
+fill t at row count i zero table = record { part = record { number = 0; count = count; next = at }; table = table }
+fill t at row count i (suc k) table = filledBy (entryAt t at row) table λ v. fill t (at + row .width) row count (suc i) k (set table i v)
+
+-- A part from the bit `at` on: a count of the row `counts`, and as many entries of the row `entries`.
+unfoldable pub partAt : List ℕ → ℕ → Row → Row → List ℕ → Filled
+unfolding filledBy fill
+partAt t at counts entries table = filledBy (entryAt t at counts) table λ n. fill t (at + counts .width) entries n 0 n table
+
+-- The closing bits: fewer than eight are left from the bit `at` on, and all are zero.
+unfoldable pub closes : List ℕ → ℕ → Bool
+closes t at = ltb (length (drop at (bits t))) 8 && allZero (drop at (bits t))

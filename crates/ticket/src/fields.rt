@@ -1,0 +1,150 @@
+// The parts of a ticket: a count and then that many entries, and the closing bits.
+use crate::Entry;
+use crate::Part;
+use crate::Row;
+use bits::Field;
+use bits::read::field;
+ghost use mathlib.Core.Path.{_≡_};
+ghost use Prim.Native.Nat.{_+_, _^_, _≤_, _<_};
+ghost use lib.ListN.{length};
+ghost use Rattle.ticket.specs.Parts.{entryAt, fill, partAt, closes};
+
+// The field at the bit `at`, tested as its row says.
+fn checked(t: &[u8], at: usize, row: Row) -> Entry
+    requires { ⌜ row .width ≤ 12 ⌝ }
+    requires { ⌜ at < 2 ^ 32 ⌝ }
+    ensures { λ r. ⌜ r ≡ entryAt (now (t .entry)) at row ⌝ }
+{
+    let Field::Value(v) = field(t, at, row.width) else {
+        return Entry::Refused(1);
+    };
+    if v < row.least {
+        return Entry::Refused(row.number);
+    }
+    if row.limit <= v {
+        return Entry::Refused(row.number);
+    }
+    Entry::Value(v)
+}
+
+// Fewer than eight bits are left from the bit `at` on, and all are zero.
+pub fn closed(t: &[u8], at: usize) -> bool
+    requires { ⌜ at < 2 ^ 32 ⌝ }
+    ensures { λ r. ⌜ r ≡ closes (now (t .entry)) at ⌝ }
+{
+    if (at + 7) / 8 < t.len() {
+        return false;
+    }
+    match field(t, at, (8 - at % 8) % 8) {
+        Field::Value(v) => v == 0,
+        Field::Ended => true,
+    }
+}
+
+// Entries of one byte, read from the bit `at` on into a table, up to the first that is refused.
+fn fill_bytes(t: &[u8], at: usize, row: Row, count: usize, table: &mut [u8]) -> Part
+    requires { ⌜ row .width ≤ 12 ⌝ }
+    requires { ⌜ row .limit ≤ 256 ⌝ }
+    requires { ⌜ at < 65536 ⌝ }
+    requires { ⌜ count ≤ 2048 ⌝ }
+    requires { ⌜ count ≤ length (now table) ⌝ }
+    ensures { λ r. ⌜ r ≡ fill (now (t .entry)) at row count 0 count (now (table .entry)) .part ⌝ }
+    ensures { λ r. ⌜ now (table .exit) ≡ fill (now (t .entry)) at row count 0 count (now (table .entry)) .table ⌝ }
+{
+    let mut next = at;
+    let mut i = 0;
+    while i < count {
+        match checked(t, next, row) {
+            Entry::Value(v) => table[i] = v as u8,
+            Entry::Refused(number) => {
+                return Part {
+                    number,
+                    count: 0,
+                    next: 0,
+                };
+            }
+        }
+        next += row.width;
+        i += 1;
+    }
+    Part {
+        number: 0,
+        count,
+        next,
+    }
+}
+
+// Entries of two bytes, read from the bit `at` on into a table, up to the first that is refused.
+fn fill_words(t: &[u8], at: usize, row: Row, count: usize, table: &mut [u16]) -> Part
+    requires { ⌜ row .width ≤ 12 ⌝ }
+    requires { ⌜ row .limit ≤ 65536 ⌝ }
+    requires { ⌜ at < 65536 ⌝ }
+    requires { ⌜ count ≤ 2048 ⌝ }
+    requires { ⌜ count ≤ length (now table) ⌝ }
+    ensures { λ r. ⌜ r ≡ fill (now (t .entry)) at row count 0 count (now (table .entry)) .part ⌝ }
+    ensures { λ r. ⌜ now (table .exit) ≡ fill (now (t .entry)) at row count 0 count (now (table .entry)) .table ⌝ }
+{
+    let mut next = at;
+    let mut i = 0;
+    while i < count {
+        match checked(t, next, row) {
+            Entry::Value(v) => table[i] = v as u16,
+            Entry::Refused(number) => {
+                return Part {
+                    number,
+                    count: 0,
+                    next: 0,
+                };
+            }
+        }
+        next += row.width;
+        i += 1;
+    }
+    Part {
+        number: 0,
+        count,
+        next,
+    }
+}
+
+// A count and then as many entries of one byte, read from the bit `at` on.
+pub fn bytes_part(t: &[u8], at: usize, counts: Row, entries: Row, table: &mut [u8]) -> Part
+    requires { ⌜ counts .width ≤ 12 ⌝ }
+    requires { ⌜ entries .width ≤ 12 ⌝ }
+    requires { ⌜ entries .limit ≤ 256 ⌝ }
+    requires { ⌜ at < 65000 ⌝ }
+    requires { ⌜ counts .limit ≤ 2049 ⌝ }
+    requires { ⌜ counts .limit ≤ length (now table) + 1 ⌝ }
+    ensures { λ r. ⌜ r ≡ partAt (now (t .entry)) at counts entries (now (table .entry)) .part ⌝ }
+    ensures { λ r. ⌜ now (table .exit) ≡ partAt (now (t .entry)) at counts entries (now (table .entry)) .table ⌝ }
+{
+    match checked(t, at, counts) {
+        Entry::Value(count) => fill_bytes(t, at + counts.width, entries, count, table),
+        Entry::Refused(number) => Part {
+            number,
+            count: 0,
+            next: 0,
+        },
+    }
+}
+
+// A count and then as many entries of two bytes, read from the bit `at` on.
+pub fn words_part(t: &[u8], at: usize, counts: Row, entries: Row, table: &mut [u16]) -> Part
+    requires { ⌜ counts .width ≤ 12 ⌝ }
+    requires { ⌜ entries .width ≤ 12 ⌝ }
+    requires { ⌜ entries .limit ≤ 65536 ⌝ }
+    requires { ⌜ at < 65000 ⌝ }
+    requires { ⌜ counts .limit ≤ 2049 ⌝ }
+    requires { ⌜ counts .limit ≤ length (now table) + 1 ⌝ }
+    ensures { λ r. ⌜ r ≡ partAt (now (t .entry)) at counts entries (now (table .entry)) .part ⌝ }
+    ensures { λ r. ⌜ now (table .exit) ≡ partAt (now (t .entry)) at counts entries (now (table .entry)) .table ⌝ }
+{
+    match checked(t, at, counts) {
+        Entry::Value(count) => fill_words(t, at + counts.width, entries, count, table),
+        Entry::Refused(number) => Part {
+            number,
+            count: 0,
+            next: 0,
+        },
+    }
+}

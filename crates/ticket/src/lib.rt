@@ -1,0 +1,145 @@
+// A ticket's bytes read, field by field, into a job by value.
+mod fields;
+
+use fields::bytes_part;
+use fields::closed;
+use fields::words_part;
+use job::Job;
+ghost use mathlib.Core.Path.{_≡_};
+ghost use Rattle.ticket.specs.Meaning.{noTicket, ticketRead};
+ghost use Rattle.ticket.specs.Parts.{diskRow, refRow};
+
+// What reading a ticket gives: 0 and its job, or the number with which the ticket is refused and an empty job.
+pub struct Ticket {
+    pub number: usize,
+    pub job: Job,
+}
+
+// A row of document 01's table of ticket fields: its bits, its values, from `least` on and below `limit`, and the number that refuses others.
+pub struct Row {
+    pub width: usize,
+    pub least: usize,
+    pub limit: usize,
+    pub number: usize,
+}
+
+// What reading one field gives: its value, or the number that refuses it.
+pub enum Entry {
+    Value(usize),
+    Refused(usize),
+}
+
+// What reading a part of a ticket gives. A part is a count and then that many entries. 0, the count and the bit after the part; or the number
+// that refuses it.
+pub struct Part {
+    pub number: usize,
+    pub count: usize,
+    pub next: usize,
+}
+
+// disks D: 1 to 8
+const DISKS: Row = Row {
+    width: 4,
+    least: 1,
+    limit: 9,
+    number: 2,
+};
+
+// buffer slots of a disk: 1 to 64
+const SLOTS: Row = Row {
+    width: 7,
+    least: 1,
+    limit: 65,
+    number: 3,
+};
+
+// blocks B: 1 to 512
+const BLOCKS: Row = Row {
+    width: 10,
+    least: 1,
+    limit: 513,
+    number: 4,
+};
+
+// references N: 0 to 2048
+const REFERENCES: Row = Row {
+    width: 12,
+    least: 0,
+    limit: 2049,
+    number: 6,
+};
+
+// the disk of a block: 0 to D − 1
+fn disk_row(disks: usize) -> Row
+    ensures { λ r. ⌜ r ≡ diskRow disks ⌝ }
+{
+    Row {
+        width: 3,
+        least: 0,
+        limit: disks,
+        number: 5,
+    }
+}
+
+// a reference, a block number: 0 to B − 1
+fn ref_row(blocks: usize) -> Row
+    ensures { λ r. ⌜ r ≡ refRow blocks ⌝ }
+{
+    Row {
+        width: 9,
+        least: 0,
+        limit: blocks,
+        number: 7,
+    }
+}
+
+// A refused ticket has an empty job, whatever was read of it.
+fn refused(number: usize) -> Ticket
+    ensures { λ r. ⌜ r ≡ noTicket number ⌝ }
+{
+    let slots = [0u8; 8];
+    let disk = [0u8; 512];
+    let refs = [0u16; 2048];
+    let job = Job {
+        disks: 0,
+        slots,
+        blocks: 0,
+        disk,
+        count: 0,
+        refs,
+    };
+    Ticket { number, job }
+}
+
+// A ticket's job, or the number with which the ticket is refused.
+pub fn read(t: &[u8]) -> Ticket
+    ensures { λ r. ⌜ r ≡ ticketRead (now (t .entry)) ⌝ }
+{
+    let mut slots = [0u8; 8];
+    let disks = bytes_part(t, 0, DISKS, SLOTS, &mut slots);
+    if disks.number != 0 {
+        return refused(disks.number);
+    }
+    let mut disk = [0u8; 512];
+    let blocks = bytes_part(t, disks.next, BLOCKS, disk_row(disks.count), &mut disk);
+    if blocks.number != 0 {
+        return refused(blocks.number);
+    }
+    let mut refs = [0u16; 2048];
+    let references = words_part(t, blocks.next, REFERENCES, ref_row(blocks.count), &mut refs);
+    if references.number != 0 {
+        return refused(references.number);
+    }
+    if !closed(t, references.next) {
+        return refused(8);
+    }
+    let job = Job {
+        disks: disks.count,
+        slots,
+        blocks: blocks.count,
+        disk,
+        count: references.count,
+        refs,
+    };
+    Ticket { number: 0, job }
+}
