@@ -1,0 +1,2 @@
+pub mod Choosing
+pub mod Right

@@ -1,0 +1,2 @@
+// A plan of a job by either rule: its rounds, its fetches and its sheet.
+pub mod choosing;
