@@ -125,13 +125,13 @@ unbeaten t s j c e pass =
 
 -- Demand 2. The bits of a sheet are bits, so its bytes hold them and the closing zeros.
 
-action-bits : (a : Action) (l : List ℕ) → Bits l → Bits (actionBits a ++ l)
+pub action-bits : (a : Action) (l : List ℕ) → Bits l → Bits (actionBits a ++ l)
 unfolding actionBits Bits Each
 action-bits idle l h = (lit< tt, h)
 action-bits (fetch x) l h = (lit< tt, subst Bits (sym (append-assoc (digits 9 x) (0 ∷ []) l)) (digits-are 9 x (0 ∷ l) (lit< tt, h)))
 action-bits (replace x z) l h = (lit< tt, subst Bits (sym (append-assoc (digits 9 x) (1 ∷ digits 9 z) l)) (digits-are 9 x (1 ∷ (digits 9 z ++ l)) (lit< tt, digits-are 9 z l h)))
 
-round-bits : (actions : List Action) (l : List ℕ) → Bits l → Bits (roundBits actions ++ l)
+pub round-bits : (actions : List Action) (l : List ℕ) → Bits l → Bits (roundBits actions ++ l)
 unfolding roundBits
 round-bits [] l h = h
 round-bits (a ∷ more) l h = rw (append-assoc (actionBits a) (roundBits more) l) (action-bits a (roundBits more ++ l) (round-bits more l h))
