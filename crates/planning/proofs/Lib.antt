@@ -1,2 +1,3 @@
 pub mod Scanning
+pub mod Chosen
 pub mod Packing
