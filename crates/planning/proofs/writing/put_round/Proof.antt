@@ -1,8 +1,9 @@
 -- `put_round`: after d disks the sheet holds their actions' bits. Assumes nothing.
 use mathlib.Core.Path.{_≡_, ap, _∙_}
-use Prim.Native.Nat.{_+_, _*_, _-_, _≤_}
+use Prim.Native.Nat.{ℕ, _+_, _-_, _≤_}
 use native.Mathlib.Omega.{arith}
 use lib.Dec.{lit<}
+use lib.ListN.{length}
 use borrow.Author.Needs.{needs}
 use Rattle.lookup.proofs.Laws.{below-any}
 use Rattle.bits.specs.Fields.{putBits}
@@ -31,7 +32,8 @@ element-copy-out-put-action : tie.Need-element-copy-out-put-action Inv-loop μ-l
 element-copy-out-put-action c = search needs
 
 cast-put-action : tie.Need-cast-put-action Inv-loop μ-loop
-cast-put-action c = ?
+cast-put-action c =
+    record { fits = (let f = below-any 513 (c .before .before .before .before .before .args .fetched .now) (lit< tt) (c .before .before .before .before .before .pre .0 .1) (c .before .before .before .loop .d) in omega (arith, f)) }
 
 mul-put-action-2 : tie.Need-mul-put-action-2 Inv-loop μ-loop
 mul-put-action-2 c = search needs
@@ -40,10 +42,18 @@ element-copy-out-put-action-2 : tie.Need-element-copy-out-put-action-2 Inv-loop 
 element-copy-out-put-action-2 c = search needs
 
 cast-put-action-2 : tie.Need-cast-put-action-2 Inv-loop μ-loop
-cast-put-action-2 c = ?
+cast-put-action-2 c =
+    record { fits = (let f = below-any 513 (c .before .before .before .before .before .before .args .discarded .now) (lit< tt) (c .before .before .before .before .before .before .pre .0 .2) (c .before .before .before .before .loop .d) in omega (arith, f)) }
 
 put-action-requires : tie.Need-put-action-requires Inv-loop μ-loop
-put-action-requires c κs = ?
+put-action-requires c κs =
+    let f = below-any 513 (c .before .before .before .before .before .before .args .fetched .now) (lit< tt) (c .before .before .before .before .before .before .pre .0 .1) (c .before .before .before .before .loop .d) in
+    let g = below-any 513 (c .before .before .before .before .before .before .args .discarded .now) (lit< tt) (c .before .before .before .before .before .before .pre .0 .2) (c .before .before .before .before .loop .d) in
+    let few = c .before .before .before .before .before .before .pre .0 .0 in
+    let room = c .before .before .before .before .before .before .pre .1 .0 in
+    let l = wrote-length (c .before .before .before .before .before .before .args .sheet .now) (c .before .before .before .before .before .before .args .start) (c .before .before .before .before .before .before .pre .1 .1) (c .before .before .before .before .before .before .args .fetched .now) (c .before .before .before .before .before .before .args .discarded .now) (c .before .before .before .before .loop .d) (c .before .before .before .before .loop .sheet) (c .before .before .before .before .loop .at) (c .before .before .before .before .loop .inv .1) (omega (arith, few, room)) in
+    let m = wrote-most (c .before .before .before .before .before .before .args .sheet .now) (c .before .before .before .before .before .before .args .start) (c .before .before .before .before .before .before .pre .1 .1) (c .before .before .before .before .before .before .args .fetched .now) (c .before .before .before .before .before .before .args .discarded .now) (c .before .before .before .before .loop .d) (c .before .before .before .before .loop .sheet) (c .before .before .before .before .loop .at) (c .before .before .before .before .loop .inv .1) (omega (arith, few, room)) in
+    ((omega (arith, f), omega (arith, g)), ((omega (arith, l, m, few, room), omega (arith, m, few, room)), wrote-clear (c .before .before .before .before .before .before .args .sheet .now) (c .before .before .before .before .before .before .args .start) (c .before .before .before .before .before .before .pre .1 .1) (c .before .before .before .before .before .before .args .fetched .now) (c .before .before .before .before .before .before .args .discarded .now) (c .before .before .before .before .loop .d) (c .before .before .before .before .loop .sheet) (c .before .before .before .before .loop .at) (c .before .before .before .before .loop .inv .1) (omega (arith, few, room))))
 
 add-d : tie.Need-add-d Inv-loop μ-loop
 add-d c = search needs
@@ -52,13 +62,25 @@ loop-less : tie.Need-loop-less Inv-loop μ-loop
 loop-less c = search needs
 
 loop-again : tie.Need-loop-again Inv-loop μ-loop
-loop-again c = ?
+loop-again c =
+    let few = c .before .before .before .before .before .before .before .before .before .pre .0 .0 in
+    let room = c .before .before .before .before .before .before .before .before .before .pre .1 .0 in
+    (omega arith, wrote-more (c .before .before .before .before .before .before .before .before .before .args .sheet .now) (c .before .before .before .before .before .before .before .before .before .args .start) (c .before .before .before .before .before .before .before .before .before .pre .1 .1) (c .before .before .before .before .before .before .before .before .before .args .fetched .now) (c .before .before .before .before .before .before .before .before .before .args .discarded .now) (c .before .before .before .before .before .before .before .loop .d) (c .before .before .before .before .before .before .before .loop .sheet) (c .before .before .before .before .before .before .before .loop .at) (c .before .before .before .before .before .before .before .loop .inv .1) (omega (arith, few, room)) (omega (arith, few, room)) (c .before .before .put-action .last .0) (c .before .before .put-action .result) (c .before .before .put-action .ensures .0) (c .before .before .put-action .ensures .1))
 
 same-length : tie.Need-same-length Inv-loop μ-loop
-same-length c = ?
+same-length c =
+    let few = c .before .before .before .pre .0 .0 in
+    let room = c .before .before .before .pre .1 .0 in
+    wrote-length (c .before .before .before .args .sheet .now) (c .before .before .before .args .start) (c .before .before .before .pre .1 .1) (c .before .before .before .args .fetched .now) (c .before .before .before .args .discarded .now) (c .before .loop .d) (c .before .loop .sheet) (c .before .loop .at) (c .before .loop .inv .1) (omega (arith, few, room))
 
 returns : tie.Need-returns Inv-loop μ-loop
-returns c = ?
+returns c =
+    let e : c .before .loop .d ≡ c .before .before .before .args .disks = omega arith in
+    let w = c .before .loop .inv .1 in
+    let actions = actionsIn (c .before .before .before .args .fetched .now) (c .before .before .before .args .discarded .now) in (
+      w .place ∙ ap (λ (d : ℕ). c .before .before .before .args .start + length (roundBits (actions d))) e,
+      w .bits ∙ ap (λ (d : ℕ). putBits (c .before .before .before .args .sheet .now) (c .before .before .before .args .start) (roundBits (actions d))) e,
+    )
 
 pub put-round-spec : {M : Type 1} → statement M
 put-round-spec =
