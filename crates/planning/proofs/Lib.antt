@@ -1,2 +1,3 @@
 pub mod Scanning
-pub mod Moving
+pub mod DiskTables
+pub mod Pointing

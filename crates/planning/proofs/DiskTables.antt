@@ -1,21 +1,21 @@
 -- One disk's tables when it acts, when another disk acts, and when reading goes on. Assumes nothing.
 use mathlib.Core.Path.{_≡_, refl, sym, ap, _∙_, subst}
 use mathlib.Core.Logic.{_≢_}
-use mathlib.Core.Bool.{Bool, true, false, _&&_}
+use mathlib.Core.Bool.{Bool, true, false}
 use mathlib.Core.List.{List}
 use Prim.Native.Nat.{ℕ, suc, _+_, _-_, _*_, _≤_, _<_}
 use native.Mathlib.Omega.{arith}
-use lib.Dec.{eqb, leb, ltb}
+use lib.Dec.{eqb, leb}
 use lib.ListN.{length, getD, set}
 use lib.Seq.{getD-set-same, getD-set-other}
-use borrow.Author.Tests.{eqb-true, eqb-false, leb-true, leb-false, ltb-true, ltb-false}
+use borrow.Author.Tests.{eqb-true, eqb-false, leb-true, leb-false}
 use Rattle.bits.proofs.Logic.{by-test, clash, and-false-left}
 use Rattle.model.specs.Job.{Job, Sound, diskCount, blockCount, refCount, slotsOf, diskOf, refAt}
 use Rattle.model.specs.Playing.{Action, fetch, replace, isResident, load, act}
 use Rattle.model.specs.Rules.{distance}
 use Rattle.model.specs.Valid.{Block, Legal}
 use Rattle.model.proofs.Counting.{count-same}
-use Rattle.model.proofs.Buffers.{entered, replaced-in, replaced-out, fetch-kept, replace-kept, still-out, act-elsewhere, apart, load-own}
+use Rattle.model.proofs.Buffers.{entered, replaced-in, replaced-out, fetch-kept, replace-kept, act-elsewhere, apart, load-own}
 use Rattle.model.proofs.Distances.{distance-mono}
 use Rattle.planning.specs.Right.{Listed, Pointer, DiskRight}
 
@@ -63,8 +63,8 @@ listed-put j marks d residents count m u small room new kept fresh only single =
         (λ z. let also = eqb-false k m z in single i k l r other also (sym (there i other) ∙ e ∙ there k also)))
 
 -- a block enters an empty slot: it is written after the others
-listed-more : (j : Job) (marks : List Bool) (d : ℕ) (residents : List ℕ) (count u : ℕ) → blockCount j ≤ length marks → d * 64 + count < length residents
-    → Listed j marks d residents count → Block j marks d u false
+listed-more : (j : Job) (marks : List Bool) (d : ℕ) (residents : List ℕ) (count u : ℕ) → blockCount j ≤ length marks
+    → d * 64 + count < length residents → Listed j marks d residents count → Block j marks d u false
     → Listed j (act marks (fetch u)) d (set residents (d * 64 + count) u) (suc count)
 listed-more j marks d residents count u long room listed out =
     listed-put j (act marks (fetch u)) d residents (suc count) count u (omega arith) room
@@ -81,8 +81,8 @@ listed-more j marks d residents count u long room listed out =
     before i l n = lib.Arith.lt-of-le-ne (omega arith) n
 
 -- a block enters in place of another: it is written at the place of that one
-listed-other : (j : Job) (marks : List Bool) (d : ℕ) (residents : List ℕ) (count m u v : ℕ) → blockCount j ≤ length marks → d * 64 + m < length residents
-    → m < count → v ≡ getD residents (d * 64 + m) 0 → Listed j marks d residents count → Block j marks d u false
+listed-other : (j : Job) (marks : List Bool) (d : ℕ) (residents : List ℕ) (count m u v : ℕ) → blockCount j ≤ length marks
+    → d * 64 + m < length residents → m < count → v ≡ getD residents (d * 64 + m) 0 → Listed j marks d residents count → Block j marks d u false
     → Listed j (act marks (replace u v)) d (set residents (d * 64 + m) u) count
 listed-other j marks d residents count m u v long room small is listed out =
     listed-put j (act marks (replace u v)) d residents count m u small room
@@ -159,7 +159,8 @@ module _ {j : Job} {marks : List Bool} {from d look : ℕ} {residents later : Li
 
   module _ (known : d < diskCount j) (long : blockCount j ≤ length marks) (full : length residents ≡ 512) where
     pub listed-into : load j marks d < slotsOf j d
-        → Listed j (act marks (fetch (refAt j look))) d (set residents (d * 64 + load j marks d) (refAt j look)) (load j (act marks (fetch (refAt j look))) d)
+        → Listed j (act marks (fetch (refAt j look))) d (set residents (d * 64 + load j marks d) (refAt j look))
+        (load j (act marks (fetch (refAt j look))) d)
     listed-into free =
         let few = sound .fewSlots d known in
         let disks = sound .fewDisks in
@@ -174,14 +175,20 @@ module _ {j : Job} {marks : List Bool} {from d look : ℕ} {residents later : Li
         let disks = sound .fewDisks in
         let at : d * 64 + (place - d * 64) ≡ place = omega arith in
         let small : place - d * 64 < load j marks d = omega arith in
-        let evicted : Block j marks d (getD residents place 0) true = subst (λ (x : ℕ). Block j marks d (getD residents x 0) true) at (right .listed .each (place - d * 64) small) in
+        let evicted : Block j marks d (getD residents place 0) true =
+        subst (λ (x : ℕ). Block j marks d (getD residents x 0) true) at (right .listed .each (place - d * 64) small) in
         rw (load-over j marks d (refAt j look) (getD residents place 0) long pointed evicted)
         (subst (λ (x : ℕ). Listed j (act marks (replace (refAt j look) (getD residents x 0))) d (set residents x (refAt j look)) (load j marks d)) at
-        (listed-other j marks d residents (load j marks d) (place - d * 64) (refAt j look) _ long (omega (arith, few, disks)) small refl (right .listed) pointed))
+        (listed-other j marks d residents (load j marks d) (place - d * 64) (refAt j look) _ long (omega (arith, few, disks)) small refl
+        (right .listed) pointed))
 
 -- the marks of the disk's own blocks
 
-pub load-same : (j : Job) (m n : List Bool) (d : ℕ) → ((b : ℕ) → b < blockCount j → diskOf j b ≡ d → isResident m b ≡ isResident n b) → load j m d ≡ load j n d
+-- every block of disk d has the same mark in both
+abbrev pub SameOn : Job → ℕ → List Bool → List Bool → Type 0
+SameOn j d m n = (b : ℕ) → b < blockCount j → diskOf j b ≡ d → isResident m b ≡ isResident n b
+
+pub load-same : (j : Job) (m n : List Bool) (d : ℕ) → SameOn j d m n → load j m d ≡ load j n d
 unfolding load
 load-same j m n d same =
     count-same _ _ (blockCount j) λ b l.
@@ -192,8 +199,7 @@ load-same j m n d same =
 block-same : {j : Job} {m n : List Bool} {d b : ℕ} {r : Bool} → isResident m b ≡ isResident n b → Block j m d b r → Block j n d b r
 block-same e h = record { known = h .known; onDisk = h .onDisk; mark = sym e ∙ h .mark }
 
-listed-agree : {j : Job} {m n : List Bool} {d count : ℕ} {residents residents' : List ℕ}
-    → ((b : ℕ) → b < blockCount j → diskOf j b ≡ d → isResident m b ≡ isResident n b)
+listed-agree : {j : Job} {m n : List Bool} {d count : ℕ} {residents residents' : List ℕ} → SameOn j d m n
     → ((i : ℕ) → i < count → getD residents' (d * 64 + i) 0 ≡ getD residents (d * 64 + i) 0)
     → Listed j m d residents count → Listed j n d residents' count
 listed-agree marks places listed = record {
@@ -203,8 +209,7 @@ listed-agree marks places listed = record {
 }
 
 -- tables that agree on one disk are right for it together
-pub disk-agree : {j : Job} {m n : List Bool} {from d look : ℕ} {residents later residents' later' : List ℕ} → Sound j
-    → ((b : ℕ) → b < blockCount j → diskOf j b ≡ d → isResident m b ≡ isResident n b)
+pub disk-agree : {j : Job} {m n : List Bool} {from d look : ℕ} {residents later residents' later' : List ℕ} → Sound j → SameOn j d m n
     → ((i : ℕ) → i < load j m d → getD residents' (d * 64 + i) 0 ≡ getD residents (d * 64 + i) 0)
     → ((b : ℕ) → b < blockCount j → diskOf j b ≡ d → getD later' b 0 ≡ getD later b 0)
     → DiskRight j m from d residents look later → DiskRight j n from d residents' look later'
@@ -214,8 +219,7 @@ disk-agree {j = j} {m = m} {n = n} {d = d} {look = look} {residents' = residents
   stops = λ l. sym (marks (refAt j look) (sound .toBlocks look l) (right .pointer .onDisk l)) ∙ right .stops l;
 }
 
-pub disk-same : {j : Job} {m n : List Bool} {from d look : ℕ} {residents later : List ℕ} → Sound j
-    → ((b : ℕ) → b < blockCount j → diskOf j b ≡ d → isResident m b ≡ isResident n b)
+pub disk-same : {j : Job} {m n : List Bool} {from d look : ℕ} {residents later : List ℕ} → Sound j → SameOn j d m n
     → DiskRight j m from d residents look later → DiskRight j n from d residents look later
 disk-same sound marks right = disk-agree sound marks (λ i l. refl) (λ b k on. refl) right
 
@@ -225,8 +229,8 @@ pub places-elsewhere : (residents : List ℕ) (d e place u i : ℕ) → e ≢ d 
     → getD (set residents place u) (e * 64 + i) 0 ≡ getD residents (e * 64 + i) 0
 places-elsewhere residents d e place u i n l r s = getD-set-other residents place (e * 64 + i) u 0 (λ q. n (omega arith))
 
-pub disk-elsewhere : {j : Job} {marks : List Bool} {from d e look : ℕ} {residents later residents' later' : List ℕ} (a : Action) → Sound j → e ≢ d → Legal j marks d a
-    → load j marks e ≤ 64
+pub disk-elsewhere : {j : Job} {marks : List Bool} {from d e look : ℕ} {residents later residents' later' : List ℕ} (a : Action) → Sound j → e ≢ d
+    → Legal j marks d a → load j marks e ≤ 64
     → ((i : ℕ) → i < 64 → getD residents' (e * 64 + i) 0 ≡ getD residents (e * 64 + i) 0)
     → ((b : ℕ) → diskOf j b ≢ d → getD later' b 0 ≡ getD later b 0)
     → DiskRight j marks from e residents look later → DiskRight j (act marks a) from e residents' look later'
@@ -247,7 +251,10 @@ disk-read {j = j} {marks = marks} {from = from} {look = look} p onward within re
     onward = before;
     within = right .pointer .within;
     onDisk = right .pointer .onDisk;
-    least = λ b k on out. (let was = right .pointer .least b k on out in let grows = distance-mono (j .refs) from p b onward within in omega (arith, was, grows));
+    least = λ b k on out.
+        (let was = right .pointer .least b k on out in
+        let grows = distance-mono (j .refs) from p b onward within in
+        omega (arith, was, grows));
     laters = right .pointer .laters;
   };
   stops = right .stops;
