@@ -1,3 +1,5 @@
 pub mod Scanning
 pub mod Chosen
+pub mod DiskTables
+pub mod Pointing
 pub mod Packing

@@ -1,3 +1,4 @@
 pub mod Choosing
 pub mod Right
+pub mod Moving
 pub mod Writing

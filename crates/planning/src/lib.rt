@@ -1,3 +1,4 @@
 // A plan of a job by either rule: its rounds, its fetches and its sheet.
 pub mod choosing;
+pub mod moving;
 pub mod writing;
