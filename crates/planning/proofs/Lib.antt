@@ -3,3 +3,4 @@ pub mod Chosen
 pub mod DiskTables
 pub mod Pointing
 pub mod Packing
+pub mod Stepping

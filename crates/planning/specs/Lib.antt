@@ -2,3 +2,4 @@ pub mod Choosing
 pub mod Right
 pub mod Moving
 pub mod Writing
+pub mod Acting

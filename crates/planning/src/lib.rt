@@ -1,4 +1,5 @@
 // A plan of a job by either rule: its rounds, its fetches and its sheet.
+pub mod acting;
 pub mod choosing;
 pub mod moving;
 pub mod writing;
