@@ -160,7 +160,7 @@ load-round j marks long d (a ∷ more) h e (suc k) q =
     let own = load-elsewhere j marks d a (h .0) e (λ r. absurd (omega arith)) in
     omega (arith, rest, own)
 
-legal-take : (j : Job) (marks : List Bool) (d i : ℕ) (actions : List Action) → LegalAll j marks d actions → LegalAll j marks d (take i actions)
+pub legal-take : (j : Job) (marks : List Bool) (d i : ℕ) (actions : List Action) → LegalAll j marks d actions → LegalAll j marks d (take i actions)
 unfolding LegalAll
 legal-take j marks d zero actions h = tt
 legal-take j marks d (suc i) [] h = tt

@@ -33,7 +33,14 @@ fn enter(
     let count = buffers.held[d] as usize;
     residents[d * 64 + count] = u as u16;
     let b = buffers.fetch(u, d);
-    let p = crate::moving::advance(refs, &b.resident, again, follow, later, lookup::head_of(look, d));
+    let p = crate::moving::advance(
+        refs,
+        &b.resident,
+        again,
+        follow,
+        later,
+        lookup::head_of(look, d),
+    );
     lookup::lead(look, d, p);
     b
 }
@@ -61,7 +68,14 @@ fn swap_in(
     let v = residents[place] as usize;
     residents[place] = u as u16;
     let b = buffers.replace(v, u, d);
-    let p = crate::moving::advance(refs, &b.resident, again, follow, later, lookup::head_of(look, d));
+    let p = crate::moving::advance(
+        refs,
+        &b.resident,
+        again,
+        follow,
+        later,
+        lookup::head_of(look, d),
+    );
     lookup::lead(look, d, p);
     b
 }
