@@ -167,7 +167,7 @@ legal-take j marks d (suc i) [] h = tt
 legal-take j marks d (suc i) (a ∷ more) h = (h .0, legal-take j (act marks a) (suc d) i more (h .1))
 
 -- an action among the first i of a round, or none
-taken : (i k : ℕ) (actions : List Action) → (getD (take i actions) k idle ≡ getD actions k idle) ⊎ (getD (take i actions) k idle ≡ idle)
+pub taken : (i k : ℕ) (actions : List Action) → (getD (take i actions) k idle ≡ getD actions k idle) ⊎ (getD (take i actions) k idle ≡ idle)
 taken zero k actions = inr refl
 taken (suc i) k [] = inr refl
 taken (suc i) zero (a ∷ more) = inl refl
