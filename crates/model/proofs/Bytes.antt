@@ -21,7 +21,8 @@ use Rattle.model.specs.Sheet.{actionBits, roundBits, roundsBits, sheetBi
 use Rattle.model.specs.Valid.{ValidFrom, ValidSheet}
 use Rattle.model.specs.Calls.{Counts, countsOf, fetchesOn, shortCounts, sparingCounts, Mark, isShort, isSparing, Planned, markOf, chosen, handed, handedCounts, plannedOf, withRooms, plannedFor, planning, passOf, checkFor, checking}
 use Rattle.model.proofs.Choosing.{Lawful, short-lawful, sparing-lawful}
-use Rattle.model.proofs.Rounds.{Ready, ready-start, ready-after}
+use Rattle.model.proofs.Rounds.{ready-start, ready-after}
+use Rattle.model.specs.Valid.{Ready}
 use Rattle.model.proofs.Plans.{length-each, actionsOf, plan-round, plan-consumes, plan-valid, plan-few}
 use Rattle.model.proofs.Short.{ahead-self, short-unbeaten}
 use Rattle.model.proofs.Sparing.{sparing-unbeaten}

@@ -13,7 +13,7 @@ use Rattle.model.specs.Playing.{Action, idle, fetch, replace, State, isResident
 use Rattle.model.specs.Rules.{Choice, intoEmpty, overMinBlock, action, Rule, distance, distanceNow}
 use Rattle.model.specs.Valid.{Block, Legal}
 use Rattle.model.proofs.Choosing.{Lawful, View, over, RuleView, short-lawful, sparing-lawful}
-use Rattle.model.proofs.Rounds.{Ready}
+use Rattle.model.specs.Valid.{Ready}
 use Rattle.lookup.specs.Lookup.{Below}
 use Rattle.playing.specs.Playing.{Holds, acted, fetchInto, replaceIn}
 use Rattle.playing.specs.declared.Buffers.{Buffers}

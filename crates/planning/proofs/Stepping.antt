@@ -17,7 +17,8 @@ use Rattle.model.specs.Plans.{choices}
 use Rattle.model.specs.Valid.{Block, Legal, LegalAll}
 use Rattle.model.proofs.Buffers.{legal-take, taken, load-round}
 use Rattle.model.proofs.Choosing.{Lawful}
-use Rattle.model.proofs.Rounds.{Ready, own-action}
+use Rattle.model.proofs.Rounds.{own-action}
+use Rattle.model.specs.Valid.{Ready}
 use Rattle.model.proofs.Plans.{actionsOf, actions-at, plan-round}
 use Rattle.lookup.specs.Lookup.{Below}
 use Rattle.playing.specs.Playing.{Holds, acted}
@@ -126,24 +127,26 @@ module _ (rule : Rule) (lawful : Lawful rule) (j : Job) (sound : Sound j) (s : S
         holds = holds-same j b′ (acted (midState rule j s d) (action (rule j s d))) (midState rule j s (suc d)) (sym e) refl holds;
         right = record {
           disks = λ k kl. subst (λ (m : List Bool). DiskRight j m (s .next) k residents′ (getD look′ k 0) later′) (sym e)
-            (by-test (eqb k d)
-            (λ y. subst (λ (x : ℕ). DiskRight j (act (midState rule j s d .resident) (action (rule j s d))) (s .next) x residents′ (getD look′ x 0) later′) (sym (eqb-true k d y)) own)
-            (λ n. let other = eqb-false k d n in
-            subst (λ (x : ℕ). DiskRight j (act (midState rule j s d .resident) (action (rule j s d))) (s .next) k residents′ x later′) (sym (looks k other))
-            (disk-elsewhere (action (rule j s d)) sound other legal′ (mid-few d k kl) (λ i q. places k i other kl q) laters (h .right .disks k kl))));
+              (by-test (eqb k d)
+              (λ y. subst (λ (x : ℕ). DiskRight j (act (midState rule j s d .resident) (action (rule j s d))) (s .next) x residents′ (getD look′ x 0) later′) (sym (eqb-true k d y)) own)
+              (λ n. let other = eqb-false k d n in
+              subst (λ (x : ℕ). DiskRight j (act (midState rule j s d .resident) (action (rule j s d))) (s .next) k residents′ x later′) (sym (looks k other))
+              (disk-elsewhere (action (rule j s d)) sound other legal′ (mid-few d k kl) (λ i q. places k i other kl q) laters (h .right .disks k kl))));
           nexts = h .right .nexts;
           longResidents = long₁;
           longLook = long₂;
           longLater = long₃;
-          longNext = h .right .longNext };
+          longNext = h .right .longNext;
+        };
         small = small;
         chosen = λ k kl. by-test (eqb k d)
-          (λ y. let same = eqb-true k d y in
-          rw (ef, ez) (subst (λ (x : ℕ). actionOf (getD (set fetched d f) x 0) (getD (set discarded d z) x 0) ≡ action (rule j s x)) (sym same)
-          (rw (getD-set-same fetched d f 0 (omega (arith, lf)), getD-set-same discarded d z 0 (omega (arith, ld))) act-is)))
-          (λ n. let other = eqb-false k d n in
-          rw (ef, ez) (rw (getD-set-other fetched d k f 0 other, getD-set-other discarded d k z 0 other) (h .chosen k (lib.Arith.lt-of-le-ne (omega arith) other))));
+            (λ y. let same = eqb-true k d y in
+            rw (ef, ez) (subst (λ (x : ℕ). actionOf (getD (set fetched d f) x 0) (getD (set discarded d z) x 0) ≡ action (rule j s x)) (sym same)
+            (rw (getD-set-same fetched d f 0 (omega (arith, lf)), getD-set-same discarded d z 0 (omega (arith, ld))) act-is)))
+            (λ n. let other = eqb-false k d n in
+            rw (ef, ez) (rw (getD-set-other fetched d k f 0 other, getD-set-other discarded d k z 0 other) (h .chosen k (lib.Arith.lt-of-le-ne (omega arith) other))));
         longFetched = ap length ef ∙ length-set fetched d f ∙ lf;
         longDiscarded = ap length ez ∙ length-set discarded d z ∙ ld;
         smallFetched = subst (Below 513) (sym ef) (below-set 513 fetched d f (h .smallFetched) ff);
-        smallDiscarded = subst (Below 513) (sym ez) (below-set 513 discarded d z (h .smallDiscarded) zz) }
+        smallDiscarded = subst (Below 513) (sym ez) (below-set 513 discarded d z (h .smallDiscarded) zz);
+      }
