@@ -4,3 +4,4 @@ pub mod DiskTables
 pub mod Pointing
 pub mod Packing
 pub mod Stepping
+pub mod Starting
