@@ -5,3 +5,4 @@ pub mod Pointing
 pub mod Packing
 pub mod Stepping
 pub mod Starting
+pub mod Headed

@@ -3,3 +3,4 @@ pub mod Right
 pub mod Moving
 pub mod Writing
 pub mod Acting
+pub mod Heading
