@@ -36,12 +36,14 @@ field-bytes k r m p =
     let second = half-byte y m (omega arith) in
     ap (bytes (suc (suc k))) split ∙ (λ i. first i ∷ second i ∷ bytes k (drop 4 m))
 
+-- The round count put into 12 zero bits is its field,
 pub headed-bytes : (n r : ℕ) (m : List ℕ) → r < 4096 → Bits m → 2 ≤ n → headed (bytes n (replicate 12 0 ++ m)) r ≡ bytes n (digits 12 r ++ m)
 unfolding headed bytes
 headed-bytes zero r m p h l = absurd (omega arith)
 headed-bytes (suc zero) r m p h l = absurd (omega arith)
 headed-bytes (suc (suc k)) r m p h l = sym (field-bytes k r m p)
 
+-- and where they are zero, it fits.
 pub header-room : (n : ℕ) (m s : List ℕ) → Bits m → 2 ≤ n → s ≡ bytes n (replicate 12 0 ++ m) → (getD s 0 0 ≡ 0) × (getD s 1 0 < 16)
 unfolding bytes
 header-room zero m s h l e = absurd (omega arith)

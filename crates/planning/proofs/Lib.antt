@@ -6,3 +6,4 @@ pub mod Packing
 pub mod Stepping
 pub mod Starting
 pub mod Headed
+pub mod Tallied

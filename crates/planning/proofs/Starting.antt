@@ -7,7 +7,7 @@ use lib.ListN.{length, getD}
 use Rattle.bits.proofs.Logic.{clash}
 use Rattle.lookup.specs.Lookup.{firsts, refDisks, chainFrom}
 use Rattle.lookup.proofs.Laws.{firsts-length, firsts-at, chain-to, chain-hit, chain-head, chain-distance}
-use Rattle.model.specs.Job.{Job, Sound, diskCount, blockCount, refCount, diskOf, refAt}
+use Rattle.model.specs.Job.{Job, Sound, diskCount, blockCount, diskOf, refAt}
 use Rattle.model.specs.Playing.{noneResident, start}
 use Rattle.model.specs.Rules.{distance}
 use Rattle.model.proofs.Buffers.{none-resident, load-none}

@@ -4,3 +4,4 @@ pub mod Moving
 pub mod Writing
 pub mod Acting
 pub mod Heading
+pub mod Tallying

@@ -3,4 +3,5 @@ pub mod acting;
 pub mod choosing;
 pub mod heading;
 pub mod moving;
+pub mod tallying;
 pub mod writing;
