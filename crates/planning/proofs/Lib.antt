@@ -6,3 +6,6 @@ pub mod Packing
 pub mod Stepping
 pub mod Acted
 pub mod Facing
+pub mod Starting
+pub mod Headed
+pub mod Tallied

@@ -3,3 +3,5 @@ pub mod Right
 pub mod Moving
 pub mod Writing
 pub mod Acting
+pub mod Heading
+pub mod Tallying
