@@ -9,3 +9,4 @@ pub mod Facing
 pub mod Starting
 pub mod Headed
 pub mod Tallied
+pub mod Driving

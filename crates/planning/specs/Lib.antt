@@ -5,3 +5,4 @@ pub mod Writing
 pub mod Acting
 pub mod Heading
 pub mod Tallying
+pub mod Planning
