@@ -121,7 +121,7 @@ module _ (rule : Rule) (lawful : Lawful rule) (j : Job) (sound : Sound j) where
         each-cong (λ e. actionOf (getD gotten e 0) (getD thrown e 0)) (λ e. action (rule j s e)) 0 (diskCount j) (λ e l r. chosen e (omega arith))
         ∙ sym (map-each action (rule j s) 0 (diskCount j))
 
-    long-actions : length (actionsOf rule j s) ≡ diskCount j
+    pub long-actions : length (actionsOf rule j s) ≡ diskCount j
     unfolding actionsOf choices
     long-actions = length-map (each (rule j s) 0 (diskCount j)) action ∙ length-each (rule j s) 0 (diskCount j)
 

@@ -10,3 +10,4 @@ pub mod Starting
 pub mod Headed
 pub mod Tallied
 pub mod Driving
+pub mod Between
