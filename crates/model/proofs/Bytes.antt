@@ -48,7 +48,7 @@ valid-passes t s j schedule e v = ap (checkFor s) e ∙ ap passOf (valid-read j 
 
 -- the eight counts
 
-getD-each : {A : Type 0} (f : ℕ → A) (i n k : ℕ) (x : A) → k < n → getD (each f i n) k x ≡ f (i + k)
+pub getD-each : {A : Type 0} (f : ℕ → A) (i n k : ℕ) (x : A) → k < n → getD (each f i n) k x ≡ f (i + k)
 unfolding each
 getD-each f i zero k x l = absurd (omega arith)
 getD-each f i (suc n) zero x l = ap f (let e : i ≡ i + 0 = omega arith in e)

@@ -90,7 +90,7 @@ module _ (rule : Rule) (lawful : Lawful rule) (j : Job) (sound : Sound j) where
       let e : refCount j - k ≡ suc (refCount j - suc k) = omega arith in
       ap (λ (n : ℕ). map (map action) (planFrom rule j n s)) e ∙ rw (lt-ltb (s .next) (refCount j) due, planFrom)
 
-  rest-none : (k : ℕ) (s : State) → refCount j ≤ s .next → restOf k s ≡ []
+  pub rest-none : (k : ℕ) (s : State) → refCount j ≤ s .next → restOf k s ≡ []
   unfolding planFrom
   rest-none k s l = go (refCount j - k)
     where
@@ -142,7 +142,7 @@ module _ (rule : Rule) (lawful : Lawful rule) (j : Job) (sound : Sound j) where
         beyond : (d : ℕ) → diskCount j ≤ d → getD (actionsOf rule j s) d idle ≡ idle
         beyond d l = lib.ListN.List·getD-eq-default (actionsOf rule j s) idle {n = d} (let e = long-actions in omega (arith, e))
 
-  told-start : Told 0 (start j) (replicate 8 0) (replicate 40968 0) 12
+  pub told-start : Told 0 (start j) (replicate 8 0) (replicate 40968 0) 12
   unfolding scheduleOf planOf bytes leading start
   told-start =
       let e : refCount j - 0 ≡ refCount j = omega arith in
@@ -158,7 +158,8 @@ module _ (rule : Rule) (lawful : Lawful rule) (j : Job) (sound : Sound j) where
         wrote = ap (λ (l : List ℕ). 0 ∷ 0 ∷ l) (bytes-none 40966);
         place = refl;
         short = omega arith;
-        all = ap roundsBits same }
+        all = ap roundsBits same;
+      }
     where
       none-yet : (d : ℕ) → getD {A = ℕ} (replicate 8 0) d 0 ≡ 0
       none-yet d =
@@ -211,8 +212,9 @@ module _ (rule : Rule) (lawful : Lawful rule) (j : Job) (sound : Sound j) where
           done = t .done ++ roundBits actions;
           done-bits = append-bits (t .done) (roundBits actions) (t .done-bits) bits-are;
           wrote = es ∙ ap (λ (l : List Action). putBits sheet at (roundBits l)) same
-            ∙ put-packed 40968 at (replicate 12 0 ++ t .done) (roundBits actions) sheet (t .wrote) told-length told-bits bits-are (omega (arith, most, width, each-one, eight, refs, p, due))
-            ∙ ap (bytes 40968) (append-assoc (replicate 12 0) (t .done) (roundBits actions));
+              ∙ put-packed 40968 at (replicate 12 0 ++ t .done) (roundBits actions) sheet (t .wrote) told-length told-bits bits-are (omega (arith, most, width, each-one, eight, refs, p, due))
+              ∙ ap (bytes 40968) (append-assoc (replicate 12 0) (t .done) (roundBits actions));
           place = (let a = t .place in let b = ap (λ (l : List Action). length (roundBits l)) same in let c = length-append (t .done) (roundBits actions) in omega (arith, a, b, c, ea));
           short = (let a = t .short in let c = length-append (t .done) (roundBits actions) in omega (arith, a, c, width, each-one, eight));
-          all = append-assoc (t .done) (roundBits actions) (roundsBits (restOf (suc k) next)) ∙ ap (λ (l : List ℕ). t .done ++ l) (sym (rounds-cons actions (restOf (suc k) next))) ∙ ap (λ (l : Schedule). t .done ++ roundsBits l) (sym more) ∙ t .all }
+          all = append-assoc (t .done) (roundBits actions) (roundsBits (restOf (suc k) next)) ∙ ap (λ (l : List ℕ). t .done ++ l) (sym (rounds-cons actions (restOf (suc k) next))) ∙ ap (λ (l : Schedule). t .done ++ roundsBits l) (sym more) ∙ t .all;
+        }
