@@ -137,7 +137,7 @@ unfolding roundBits
 round-bits [] l h = h
 round-bits (a ∷ more) l h = rw (append-assoc (actionBits a) (roundBits more) l) (action-bits a (roundBits more ++ l) (round-bits more l h))
 
-rounds-bits : (schedule : Schedule) → Bits (roundsBits schedule)
+pub rounds-bits : (schedule : Schedule) → Bits (roundsBits schedule)
 unfolding roundsBits Bits Each
 rounds-bits [] = tt
 rounds-bits (actions ∷ more) = round-bits actions (roundsBits more) (rounds-bits more)

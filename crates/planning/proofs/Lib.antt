@@ -11,3 +11,4 @@ pub mod Headed
 pub mod Tallied
 pub mod Driving
 pub mod Between
+pub mod Setting

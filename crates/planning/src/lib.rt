@@ -95,3 +95,40 @@ fn play_rounds(
         bits: at,
     }
 }
+
+// The plan of a job, written as a sheet into a buffer of zeros.
+pub fn run(job: Job, sparing: bool, sheet: &mut [u8]) -> Totals
+    requires { ⌜ Fits job ⌝ }
+    requires { ⌜ now sheet ≡ replicate 40968 0 ⌝ }
+    ensures { λ r. ⌜ r ≡ totalsOf (scheduleOf (ruleOf sparing) (jobOf job)) ⌝ }
+    ensures { λ r. ⌜ now (sheet .exit) ≡ bytes 40968 (sheetBits (scheduleOf (ruleOf sparing) (jobOf job))) ⌝ }
+{
+    let n = job.count;
+    let all = job.refs;
+    let disk = job.disk;
+    let slots = job.slots;
+    let refs = &all[..n];
+    let mut next: Firsts = [0; 512];
+    let mut again: Agains = [0; 2048];
+    let mut follow: Agains = [0; 2048];
+    let mut look: Heads = [0; 8];
+    lookup::index(refs, &mut next, &mut again);
+    lookup::chain(refs, &disk, &mut follow, &mut look);
+    let mut later = next;
+    let totals = play_rounds(
+        job.disks,
+        &slots,
+        job.blocks,
+        &disk,
+        refs,
+        sparing,
+        &again,
+        &follow,
+        &mut next,
+        &mut later,
+        &mut look,
+        sheet,
+    );
+    heading::put_header(sheet, totals.rounds);
+    totals
+}
