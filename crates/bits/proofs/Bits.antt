@@ -89,7 +89,7 @@ drop-bits (suc w) [] h = h
 drop-bits (suc w) (b ∷ l) h = drop-bits w l (h .1)
 
 -- the digits of a number do not see what stands above them
-digits-low : (w a v : ℕ) → digits w (a * 2 ^ w + v) ≡ digits w v
+pub digits-low : (w a v : ℕ) → digits w (a * 2 ^ w + v) ≡ digits w v
 unfolding digits
 digits-low zero a v = refl
 digits-low (suc w) a v =

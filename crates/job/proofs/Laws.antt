@@ -1,10 +1,13 @@
 -- A job by value read back: the value of a sound job fits, and is that job; and what one entry of an array says of the job. Assumes nothing.
 use mathlib.Core.Path.{_≡_, sym, _∙_, subst}
-use mathlib.Core.List.{List}
-use Prim.Native.Nat.{ℕ, _-_, _≤_, _<_}
+use mathlib.Core.List.{List, _++_}
+use Prim.Native.Nat.{ℕ, _+_, _-_, _≤_, _<_}
 use native.Mathlib.Omega.{arith}
-use lib.ListN.{length, take, getD, replicate, length-append, length-replicate, length-take}
-use lib.Seq.{take-append-seam, getD-take}
+use lib.Dec.{ltb}
+use borrow.Author.Tests.{ltb-true, ltb-false}
+use Rattle.bits.proofs.Logic.{by-test}
+use lib.ListN.{length, take, getD, replicate, length-append, length-replicate, length-take, getD-replicate, List·getD-append, List·getD-eq-default}
+use lib.Seq.{take-append-seam, getD-append-add, getD-take}
 use Rattle.model.specs.Job.{Job, Sound, diskCount, blockCount, refCount, slotsOf, diskOf, refAt}
 use Rattle.job.specs.Meaning.{jobOf, padTo, stored, Fits}
 use Rattle.job.specs.declared.Job.{Job as Stored}
@@ -20,6 +23,22 @@ take-padTo : (n : ℕ) (l : List ℕ) → take (length l) (padTo n l) ≡ l
 unfolding padTo
 take-padTo n l = take-append-seam l (replicate (n - length l) 0)
 
+-- a list below a bound stays so with zeros after it
+padTo-below : (n k : ℕ) (l : List ℕ) → ((i : ℕ) → i < length l → getD l i 0 < k) → (b : ℕ) → 0 < k → getD (padTo n l) b 0 < k
+unfolding padTo
+padTo-below n k l h b pos =
+    by-test (ltb b (length l))
+    (λ e. let small = ltb-true b (length l) e in rw (List·getD-append l (replicate (n - length l) 0) 0 b small) (h b small))
+    (λ e. let at : length l + (b - length l) ≡ b = (let q = ltb-false b (length l) e in omega (arith, q)) in
+    subst (λ (x : ℕ). getD (l ++ replicate (n - length l) 0) x 0 < k) at
+    (rw (getD-append-add l (replicate (n - length l) 0) (b - length l) 0) (zeros (n - length l) (b - length l))))
+  where
+    zeros : (m i : ℕ) → getD (replicate m 0) i 0 < k
+    zeros m i =
+        by-test (ltb i m)
+        (λ e. rw (getD-replicate {A = ℕ} m i 0 0 (ltb-true i m e)) pos)
+        (λ e. rw (List·getD-eq-default {A = ℕ} (replicate m 0) 0 {n = i} (let q = ltb-false i m e in let r = length-replicate {A = ℕ} m 0 in omega (arith, q, r))) pos)
+
 pub jobOf-stored : (j : Job) → jobOf (stored j) ≡ j
 unfolding jobOf stored
 jobOf-stored j = λ i. record { slots = take-padTo 8 (j .slots) i; disks = take-padTo 512 (j .disks) i; refs = take-padTo 2048 (j .refs) i }
@@ -30,6 +49,7 @@ stored-fits j h = record {
   longSlots = length-padTo 8 (j .slots) (h .fewDisks);
   longDisk = length-padTo 512 (j .disks) (h .fewBlocks);
   longRefs = length-padTo 2048 (j .refs) (h .fewRefs);
+  smallDisk = λ b. padTo-below 512 8 (j .disks) (λ i l. (let a = h .onDisks i l in let e = h .fewDisks in omega (arith, a, e))) b (omega arith);
   fewDisks = h .fewDisks;
   fewBlocks = h .fewBlocks;
   fewRefs = h .fewRefs;

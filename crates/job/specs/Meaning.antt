@@ -1,8 +1,8 @@
 -- Which job of the model a job by value is. Assumes nothing.
 use mathlib.Core.Path.{_≡_}
 use mathlib.Core.List.{List, _++_}
-use Prim.Native.Nat.{ℕ, _-_, _≤_}
-use lib.ListN.{length, take, replicate}
+use Prim.Native.Nat.{ℕ, _-_, _≤_, _<_}
+use lib.ListN.{length, getD, take, replicate}
 use Rattle.model.specs.Job.{Job, Sound, diskCount, blockCount, refCount}
 use Rattle.job.specs.declared.Job.{Job as Stored}
 
@@ -31,6 +31,7 @@ pub record Fits (c : Stored) : Type 0 where
   pub longSlots : length (c .slots) ≡ 8
   pub longDisk : length (c .disk) ≡ 512
   pub longRefs : length (c .refs) ≡ 2048
+  pub smallDisk : (b : ℕ) → getD (c .disk) b 0 < 8
   pub fewDisks : c .disks ≤ 8
   pub fewBlocks : c .blocks ≤ 512
   pub fewRefs : c .count ≤ 2048

@@ -92,3 +92,11 @@ pub fn head_of(head: &Heads, disk: usize) -> usize
 {
     number(head[disk])
 }
+
+// The position of a disk is another from now on.
+pub fn lead(head: &mut Heads, disk: usize, to: usize)
+    requires { ⌜ (disk < 8) × (to ≤ 2048) ⌝ }
+    ensures { λ _. ⌜ now (head .exit) ≡ set (now (head .entry)) disk to ⌝ }
+{
+    head[disk] = position(to);
+}

@@ -160,14 +160,14 @@ load-round j marks long d (a ∷ more) h e (suc k) q =
     let own = load-elsewhere j marks d a (h .0) e (λ r. absurd (omega arith)) in
     omega (arith, rest, own)
 
-legal-take : (j : Job) (marks : List Bool) (d i : ℕ) (actions : List Action) → LegalAll j marks d actions → LegalAll j marks d (take i actions)
+pub legal-take : (j : Job) (marks : List Bool) (d i : ℕ) (actions : List Action) → LegalAll j marks d actions → LegalAll j marks d (take i actions)
 unfolding LegalAll
 legal-take j marks d zero actions h = tt
 legal-take j marks d (suc i) [] h = tt
 legal-take j marks d (suc i) (a ∷ more) h = (h .0, legal-take j (act marks a) (suc d) i more (h .1))
 
 -- an action among the first i of a round, or none
-taken : (i k : ℕ) (actions : List Action) → (getD (take i actions) k idle ≡ getD actions k idle) ⊎ (getD (take i actions) k idle ≡ idle)
+pub taken : (i k : ℕ) (actions : List Action) → (getD (take i actions) k idle ≡ getD actions k idle) ⊎ (getD (take i actions) k idle ≡ idle)
 taken zero k actions = inr refl
 taken (suc i) k [] = inr refl
 taken (suc i) zero (a ∷ more) = inl refl

@@ -21,7 +21,8 @@ use Rattle.model.specs.Sheet.{actionBits, roundBits, roundsBits, sheetBi
 use Rattle.model.specs.Valid.{ValidFrom, ValidSheet}
 use Rattle.model.specs.Calls.{Counts, countsOf, fetchesOn, shortCounts, sparingCounts, Mark, isShort, isSparing, Planned, markOf, chosen, handed, handedCounts, plannedOf, withRooms, plannedFor, planning, passOf, checkFor, checking}
 use Rattle.model.proofs.Choosing.{Lawful, short-lawful, sparing-lawful}
-use Rattle.model.proofs.Rounds.{Ready, ready-start, ready-after}
+use Rattle.model.proofs.Rounds.{ready-start, ready-after}
+use Rattle.model.specs.Valid.{Ready}
 use Rattle.model.proofs.Plans.{length-each, actionsOf, plan-round, plan-consumes, plan-valid, plan-few}
 use Rattle.model.proofs.Short.{ahead-self, short-unbeaten}
 use Rattle.model.proofs.Sparing.{sparing-unbeaten}
@@ -47,7 +48,7 @@ valid-passes t s j schedule e v = ap (checkFor s) e ∙ ap passOf (valid-read j 
 
 -- the eight counts
 
-getD-each : {A : Type 0} (f : ℕ → A) (i n k : ℕ) (x : A) → k < n → getD (each f i n) k x ≡ f (i + k)
+pub getD-each : {A : Type 0} (f : ℕ → A) (i n k : ℕ) (x : A) → k < n → getD (each f i n) k x ≡ f (i + k)
 unfolding each
 getD-each f i zero k x l = absurd (omega arith)
 getD-each f i (suc n) zero x l = ap f (let e : i ≡ i + 0 = omega arith in e)
@@ -125,18 +126,18 @@ unbeaten t s j c e pass =
 
 -- Demand 2. The bits of a sheet are bits, so its bytes hold them and the closing zeros.
 
-action-bits : (a : Action) (l : List ℕ) → Bits l → Bits (actionBits a ++ l)
+pub action-bits : (a : Action) (l : List ℕ) → Bits l → Bits (actionBits a ++ l)
 unfolding actionBits Bits Each
 action-bits idle l h = (lit< tt, h)
 action-bits (fetch x) l h = (lit< tt, subst Bits (sym (append-assoc (digits 9 x) (0 ∷ []) l)) (digits-are 9 x (0 ∷ l) (lit< tt, h)))
 action-bits (replace x z) l h = (lit< tt, subst Bits (sym (append-assoc (digits 9 x) (1 ∷ digits 9 z) l)) (digits-are 9 x (1 ∷ (digits 9 z ++ l)) (lit< tt, digits-are 9 z l h)))
 
-round-bits : (actions : List Action) (l : List ℕ) → Bits l → Bits (roundBits actions ++ l)
+pub round-bits : (actions : List Action) (l : List ℕ) → Bits l → Bits (roundBits actions ++ l)
 unfolding roundBits
 round-bits [] l h = h
 round-bits (a ∷ more) l h = rw (append-assoc (actionBits a) (roundBits more) l) (action-bits a (roundBits more ++ l) (round-bits more l h))
 
-rounds-bits : (schedule : Schedule) → Bits (roundsBits schedule)
+pub rounds-bits : (schedule : Schedule) → Bits (roundsBits schedule)
 unfolding roundsBits Bits Each
 rounds-bits [] = tt
 rounds-bits (actions ∷ more) = round-bits actions (roundsBits more) (rounds-bits more)

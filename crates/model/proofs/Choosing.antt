@@ -203,7 +203,7 @@ module _ (j : Job) (s : State) (d u v : ℕ) where
   abbrev laterTest : ℕ → Bool
   laterTest b = inBuffer j s d b && ltb (distance (j .refs) (distanceNow j s u) v) (distance (j .refs) (distanceNow j s u) b)
 
-  no-later : someLater j s d u v ≡ false → NoLater j s d u v
+  pub no-later : someLater j s d u v ≡ false → NoLater j s d u v
   unfolding someLater
   no-later e b l on r =
       let none-counted : count laterTest (blockCount j) ≡ 0 = (let p = ltb-false 0 (count laterTest (blockCount j)) e in omega (arith, p)) in
@@ -211,7 +211,7 @@ module _ (j : Job) (s : State) (d u v : ℕ) where
       (λ y. clash (and-true {a = inBuffer j s d b} (rw (eq-eqb (diskOf j b) d on, r)) y) (count-none laterTest (blockCount j) none-counted b l))
       (λ f. ltb-false _ _ f)
 
-  one-later : someLater j s d u v ≡ true → (b : ℕ) × Block j (s .resident) d b true × (distance (j .refs) (distanceNow j s u) v < distance (j .refs) (distanceNow j s u) b)
+  pub one-later : someLater j s d u v ≡ true → (b : ℕ) × Block j (s .resident) d b true × (distance (j .refs) (distanceNow j s u) v < distance (j .refs) (distanceNow j s u) b)
   unfolding someLater
   one-later e =
       let w = count-some laterTest (blockCount j) (ltb-true 0 (count laterTest (blockCount j)) e) in

@@ -40,14 +40,14 @@ ticket-longest = (refl, refl)
 
 -- an action takes at most 20 bits
 
-length-action : (a : Action) → length (actionBits a) ≤ 20
+pub length-action : (a : Action) → length (actionBits a) ≤ 20
 unfolding actionBits
 length-action idle = omega arith
 length-action (fetch x) = let e = length-append (digits 9 x) (0 ∷ []) in let d = length-digits 9 x in omega (arith, e, d)
 length-action (replace x z) =
     let e = length-append (digits 9 x) (1 ∷ digits 9 z) in let d = length-digits 9 x in let f = length-digits 9 z in omega (arith, e, d, f)
 
-length-round : (actions : List Action) → length (roundBits actions) ≤ length actions * 20
+pub length-round : (actions : List Action) → length (roundBits actions) ≤ length actions * 20
 unfolding roundBits
 length-round [] = omega arith
 length-round (a ∷ more) =

@@ -18,7 +18,8 @@ use Rattle.model.specs.Valid.{Legal, LegalAll, Round, ValidFrom}
 use Rattle.model.proofs.Buffers.{entered, replaced-in, fetch-kept, replace-kept, act-elsewhere, load-round}
 use Rattle.model.proofs.Distances.{distance-from, distance-one, distance-here}
 use Rattle.model.proofs.Choosing.{nothing, into, sooner, waiting, over, RuleView, Lawful}
-use Rattle.model.proofs.Rounds.{Ready, own-action, round-of, ready-after}
+use Rattle.model.proofs.Rounds.{own-action, round-of, ready-after}
+use Rattle.model.specs.Valid.{Ready}
 
 -- the list f i, f (i + 1), ..
 

@@ -12,17 +12,11 @@ use Rattle.bits.proofs.Logic.{by-test, clash}
 use Rattle.model.specs.Job.{Job, diskCount, blockCount, refCount, slotsOf, diskOf}
 use Rattle.model.specs.Playing.{Action, idle, fetch, replace, State, start, noneResident, isResident, load, act, actAll, playRound, fetched}
 use Rattle.model.specs.Rules.{distance}
-use Rattle.model.specs.Valid.{LegalAll, Round}
+use Rattle.model.specs.Valid.{LegalAll, Round, Ready}
 use Rattle.model.proofs.Buffers.{length-act, length-actAll, mark-set, mark-kept, act-elsewhere, load-none}
 use Rattle.model.proofs.Playing.{readOn-within, readOn-held, readOn-stops}
 use Rattle.model.proofs.Distances.{distance-from, distance-hit}
 use Rattle.model.proofs.Missing.{miss, miss-act, miss-same, miss-shift}
-
--- A state from which a job can be played: a mark for each block, the next read within the references, the loads within the slots.
-pub record Ready (j : Job) (s : State) : Type 0 where
-  pub long : blockCount j ≤ length (s .resident)
-  pub within : s .next ≤ refCount j
-  pub loads : (d : ℕ) → d < diskCount j → load j (s .resident) d ≤ slotsOf j d
 
 pub ready-start : (j : Job) → blockCount j ≤ 512 → Ready j (start j)
 unfolding start noneResident

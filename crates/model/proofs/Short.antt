@@ -18,7 +18,8 @@ use Rattle.model.proofs.Distances.{distance-before}
 use Rattle.model.proofs.Choosing.{nothing, into, sooner, waiting, over, ShortView, short-view, short-lawful}
 use Rattle.model.proofs.Missing.{want, miss, miss-zero, miss-none, pigeonhole, pigeonhole-full, want-mono}
 use Rattle.model.proofs.Effects.{none-before, into-clear, into-gain, over-clear, over-gain, over-tight}
-use Rattle.model.proofs.Rounds.{Ready, ready-after, read-ahead, miss-round, miss-entered, miss-read}
+use Rattle.model.proofs.Rounds.{ready-after, read-ahead, miss-round, miss-entered, miss-read}
+use Rattle.model.specs.Valid.{Ready}
 use Rattle.model.proofs.Plans.{actionsOf, actions-at, plan-round}
 
 -- What the plan's action does to what is missed up to q.

@@ -19,7 +19,8 @@ use Rattle.model.proofs.Distances.{distance-from, distance-same}
 use Rattle.model.proofs.Choosing.{Nearest, Last, nothing, into, sooner, waiting, over, SparingView, sparing-view, sparing-lawful}
 use Rattle.model.proofs.Missing.{want, miss, miss-zero, miss-some, pigeonhole, pigeonhole-full, want-mono, miss-shift}
 use Rattle.model.proofs.Effects.{into-clear, into-gain, over-clear, over-gain, over-tight}
-use Rattle.model.proofs.Rounds.{Ready, ready-after, miss-round, miss-entered, miss-read}
+use Rattle.model.proofs.Rounds.{ready-after, miss-round, miss-entered, miss-read}
+use Rattle.model.specs.Valid.{Ready}
 use Rattle.model.proofs.Plans.{actionsOf, actions-at, plan-round}
 
 module _ (j : Job) (d : ℕ) where

@@ -18,7 +18,8 @@ use Rattle.model.specs.Sheet.{sheetBits, sheetReader, scheduleRead}
 use Rattle.model.specs.Valid.{Legal, LegalAll, ValidFrom, ValidSheet}
 use Rattle.model.proofs.Buffers.{length-act, load-own, load-elsewhere, load-before}
 use Rattle.model.proofs.Playing.{round-plays}
-use Rattle.model.proofs.Rounds.{Ready, ready-start, ready-after, round-of}
+use Rattle.model.proofs.Rounds.{ready-start, ready-after, round-of}
+use Rattle.model.specs.Valid.{Ready}
 use Rattle.model.proofs.Sheets.{Room, RoomAll, Allowed, SheetRead}
 use Rattle.model.proofs.Written.{sheet-written}
 

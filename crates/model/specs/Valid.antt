@@ -45,6 +45,12 @@ pub record Round (j : Job) (s : State) (actions : List Action) (t : State) : Typ
   pub stops : t .next < refCount j → isResident (t .resident) (refAt j (t .next)) ≡ false
   pub counted : t .round ≡ suc (s .round)
 
+-- A state from which a job can be played: a mark for each block, the next read within the references, the loads within the slots.
+pub record Ready (j : Job) (s : State) : Type 0 where
+  pub long : blockCount j ≤ length (s .resident)
+  pub within : s .next ≤ refCount j
+  pub loads : (d : ℕ) → d < diskCount j → load j (s .resident) d ≤ slotsOf j d
+
 -- A schedule that can be played from the state s, and consumes all references.
 unfoldable pub ValidFrom : Job → State → Schedule → Type 0
 ValidFrom j s [] = s .next ≡ refCount j
