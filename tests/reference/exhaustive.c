@@ -1,0 +1,183 @@
+/* exhaustive.c - every schedule of small jobs, against the two plans.
+ *
+ * usage: exhaustive [SEED [COUNT]]
+ * A state is the next read and the set of resident blocks. All states that allowed actions can
+ * reach are searched for the fewest rounds, and then, for each disk on its own, for the fewest
+ * fetches there. Exit 0 only if these are the rounds of P-MIN and the fetches of P-CON, and the
+ * sheets of both pass the check with the plans' counts. */
+#include "chance.h"
+#include "reference.h"
+
+#include <inttypes.h>
+#include <stdio.h>
+#include <stdlib.h>
+#include <string.h>
+
+enum { MOST_DISKS = 3, MOST_BLOCKS = 6, MOST_REFERENCES = 20, SETS = 1 << MOST_BLOCKS };
+enum { ROUNDS = MOST_DISKS, UNREACHED = 1000000 };
+
+struct search {
+    const struct ref_job *job;
+    unsigned of_disk[MOST_DISKS];            /* the set of blocks on each disk */
+    unsigned measure;                        /* ROUNDS, or the disk whose fetches count */
+    unsigned cost[MOST_REFERENCES + 1][SETS];
+    bool changed;
+};
+
+static unsigned size(unsigned set)
+{
+    return set == 0 ? 0 : (set & 1) + size(set >> 1);
+}
+
+/* The end of a round: reading, then the state's cost if it is the least so far. */
+static void arrive(struct search *s, unsigned next_read, unsigned set, unsigned cost)
+{
+    while (next_read < s->job->references && set >> s->job->reference[next_read] & 1)
+        next_read++;
+    if (cost < s->cost[next_read][set]) {
+        s->cost[next_read][set] = cost;
+        s->changed = true;
+    }
+}
+
+/* Every allowed action of disk d, each followed by every one of the disks after it. */
+static void each_action(struct search *s, unsigned d, unsigned next_read, unsigned set,
+                        unsigned cost)
+{
+    unsigned after = cost + (s->measure == d);
+
+    if (d == s->job->disks) {
+        arrive(s, next_read, set, cost + (s->measure == ROUNDS));
+        return;
+    }
+    each_action(s, d + 1, next_read, set, cost);
+    for (unsigned x = 0; x < s->job->blocks; x++) {
+        if (s->job->disk[x] != d || (set >> x & 1))
+            continue;
+        if (size(set & s->of_disk[d]) < s->job->slots[d])
+            each_action(s, d + 1, next_read, set | 1u << x, after);
+        for (unsigned y = 0; y < s->job->blocks; y++)
+            if (s->job->disk[y] == d && (set >> y & 1))
+                each_action(s, d + 1, next_read, (set & ~(1u << y)) | 1u << x, after);
+    }
+}
+
+/* The least rounds, or fetches on a disk, of all schedules that consume every reference. */
+static unsigned least(struct search *s, unsigned measure)
+{
+    unsigned best = UNREACHED;
+
+    s->measure = measure;
+    for (unsigned p = 0; p <= s->job->references; p++)
+        for (unsigned set = 0; set < SETS; set++)
+            s->cost[p][set] = UNREACHED;
+    s->cost[0][0] = 0;
+    do {
+        s->changed = false;
+        for (unsigned p = 0; p < s->job->references; p++)
+            for (unsigned set = 0; set < 1u << s->job->blocks; set++)
+                if (s->cost[p][set] != UNREACHED)
+                    each_action(s, 0, p, set, s->cost[p][set]);
+    } while (s->changed);
+    for (unsigned set = 0; set < SETS; set++)
+        if (s->cost[s->job->references][set] < best)
+            best = s->cost[s->job->references][set];
+    return best;
+}
+
+/* Two jobs in three are of any kind, with at most 8 references. The third has two disks with one
+ * and two slots, is longer and reads in stretches of one disk: there the two plans often part. */
+static void draw_small_job(struct chance *c, struct ref_job *job)
+{
+    bool tight = one_in(c, 3);
+    unsigned last = 0;
+
+    job->disks = tight ? 2 : between(c, 1, MOST_DISKS);
+    job->blocks = tight ? MOST_BLOCKS : between(c, 1, MOST_BLOCKS);
+    job->references = tight ? between(c, 9, MOST_REFERENCES) : between(c, 0, 8);
+    for (unsigned d = 0; d < job->disks; d++)
+        job->slots[d] = tight ? d + 1 : between(c, 1, 3);
+    for (unsigned b = 0; b < job->blocks; b++)
+        job->disk[b] = (uint8_t)(tight ? b >= 2 : below(c, job->disks));
+    for (unsigned i = 0; i < job->references; i++) {
+        unsigned b = below(c, job->blocks);
+
+        if (tight && i > 0 && !one_in(c, 3))
+            while (job->disk[b] != job->disk[last])
+                b = below(c, job->blocks);
+        job->reference[i] = (uint16_t)b;
+        last = b;
+    }
+}
+
+/* Both sheets pass, with the counts planning gave; 0 if not. */
+static bool both_pass(const struct ref_job *job, struct ref_planned *planned)
+{
+    static uint8_t ticket[REF_TICKET], sheet[2][REF_SHEET];
+    size_t n = ref_write_ticket(job, ticket, sizeof ticket);
+    struct ref_counts counts;
+
+    if (ref_plan(ticket, n, sheet[0], REF_SHEET, sheet[1], REF_SHEET, planned) != 0)
+        return false;
+    for (int k = 0; k < 2; k++)
+        if (ref_check(ticket, n, sheet[k], planned->sheet_length[k], &counts) != 0 ||
+            memcmp(&counts, &planned->counts[k], sizeof counts) != 0)
+            return false;
+    return true;
+}
+
+static bool plans_are_least(const struct ref_job *job, const struct ref_planned *planned)
+{
+    static struct search s;
+    bool good;
+
+    s.job = job;
+    memset(s.of_disk, 0, sizeof s.of_disk);
+    for (unsigned b = 0; b < job->blocks; b++)
+        s.of_disk[job->disk[b]] |= 1u << b;
+    good = least(&s, ROUNDS) == planned->counts[REF_P_MIN].rounds;
+    for (unsigned d = 0; d < job->disks; d++)
+        good = good && least(&s, d) == planned->counts[REF_P_CON].fetches[d];
+    return good;
+}
+
+static void print_job(const struct ref_job *job)
+{
+    printf("  %u disks; slots", job->disks);
+    for (unsigned d = 0; d < job->disks; d++)
+        printf(" %u", job->slots[d]);
+    printf("; disks of the blocks");
+    for (unsigned b = 0; b < job->blocks; b++)
+        printf(" %u", job->disk[b]);
+    printf("; references");
+    for (unsigned i = 0; i < job->references; i++)
+        printf(" %u", job->reference[i]);
+    printf("\n");
+}
+
+int main(int argc, char **argv)
+{
+    uint64_t seed = argc > 1 ? strtoull(argv[1], NULL, 10) : 1;
+    uint64_t count = argc > 2 ? strtoull(argv[2], NULL, 10) : 10000;
+    unsigned slower = 0, spares = 0;
+
+    for (uint64_t k = 0; k < count; k++) {
+        struct chance c = chance_for(seed, k);
+        struct ref_planned planned;
+        struct ref_job job;
+
+        draw_small_job(&c, &job);
+        if (!both_pass(&job, &planned) || !plans_are_least(&job, &planned)) {
+            printf("NOT THE LEAST: seed %" PRIu64 ", job %" PRIu64 "\n", seed, k);
+            print_job(&job);
+            return 1;
+        }
+        slower += planned.counts[REF_P_CON].rounds > planned.counts[REF_P_MIN].rounds;
+        spares += memcmp(planned.counts[0].fetches, planned.counts[1].fetches,
+                         sizeof planned.counts[0].fetches) != 0;
+    }
+    printf("%" PRIu64 " jobs searched (seed %" PRIu64 "): the plans are the least in all\n", count,
+           seed);
+    printf("  P-CON took more rounds than P-MIN in %u, and other fetches in %u\n", slower, spares);
+    return 0;
+}

@@ -1,0 +1,155 @@
+# mutants.sh - wrong planners, each of which the vectors or the search must catch.
+#
+# usage: sh mutants.sh BUILD     (BUILD has vectors.o, exhaustive.o and chance.o)
+# A mutant is a copy of reference.c changed by a sed script, in BUILD/mutant.
+cd "$(dirname "$0")" || exit 2
+cc=${CC:-cc}
+build=$1
+dir=$build/mutant
+missed=0
+tried=0
+cat ../vectors/base.txt ../vectors/edges.txt >"$build/all.txt" || exit 2
+
+# trial NAME SCRIPT TEST WORDS ARGUMENT... - the changed copy must differ and compile, and the test
+# must say what is wrong with it: a crash would not do.
+trial() {
+    name=$1 script=$2 test=$3 words=$4
+    shift 4
+    tried=$((tried + 1))
+    rm -rf "$dir" && mkdir -p "$dir"
+    sed -E "$script" reference.c >"$dir/reference.c"
+    if cmp -s reference.c "$dir/reference.c" ||
+        ! $cc -O1 -std=c11 -I. -c "$dir/reference.c" -o "$dir/reference.o"; then
+        echo "BROKEN  $name"
+        missed=$((missed + 1))
+        return
+    fi
+    $cc "$build/$test.o" "$build/chance.o" "$dir/reference.o" -o "$dir/$test" || exit 2
+    timeout 60 "$dir/$test" "$@" >"$dir/report"
+    if [ $? -ne 1 ] || ! grep -q "$words" "$dir/report"; then
+        echo "MISSED  $name ($test)"
+        missed=$((missed + 1))
+    fi
+}
+
+# mutant NAME SCRIPT - a wrong reference that the vectors must catch.
+mutant() {
+    trial "$1" "$2" vectors disagrees "$build/all.txt"
+}
+
+# searched NAME SCRIPT - a wrong reference that the search must catch.
+searched() {
+    trial "$1" "$2" exhaustive 'NOT THE LEAST' 1 10000
+}
+
+on_demand='if (view[d].u != REF_NONE \&\& l.distance[view[d].u] != next_read) view[d].u = REF_NONE;'
+each_disk='for (unsigned d = 0; d < job->disks; d++)'
+
+# Scripts used more than once
+no_wait='s/rule == REF_P_CON && waits/false \&\& waits/'
+all_wait='s/rule == REF_P_CON && waits/waits/'
+demand="s/^        survey\\(.*/&\\n$each_disk $on_demand/"
+early='s/^    if \(l->distance\[v.min_block\] < /    if (rule == REF_P_MIN \&\& l->distance[v.min_block] < /
+    s/if \(from_u > l->distance\[v.min_block\]\)/unsigned m = l->distance[v.min_block]; while (m < l->distance[v.u]) m = l->next[m]; if (from_u > m)/'
+
+# The rules
+mutant 'lowest number among several nevers' \
+    's/(distance\[b\] )>=( l->distance\[v->min_block)/\1>\2/'
+mutant 'demand-only fetching' "$demand"
+mutant 'prefetch in round 1, later only demands' \
+    "s/^        survey\\(.*/&\\nif (counts->rounds > 0) $each_disk $on_demand/"
+mutant 'Definition 4 to the letter: idle beside an empty slot' \
+    's/held\[d\] < job->slots\[d\]\)$/held[d] < job->slots[d] \&\& (v.min_block == REF_NONE || l->distance[v.min_block] >= l->distance[v.u]))/'
+mutant 'Definition 5 to the letter: a block out beside an empty slot' \
+    's/return \(struct ref_action\)\{v.u, REF_NONE\}/return (struct ref_action){v.u, rule == REF_P_CON ? v.min_block : REF_NONE}/'
+mutant 'Definition 5 to the letter: discards a block due before U' "$early"
+mutant 'P-CON never waits' "$no_wait"
+mutant 'P-MIN waits too' "$all_wait"
+mutant 'P-CON: two nevers not equal, the higher number is later' \
+    's/if \(from_u > l->distance\[v.min_block\]\)/if (from_u > l->distance[v.min_block] || (from_u == l->distance[v.min_block] \&\& b > v.min_block \&\& from_u != l->distance[b]))/'
+mutant 'P-CON counted from the next read, not from U' \
+    's/while \(from_u < l->distance\[v.u\]\)/while (false)/'
+mutant 'equal rounds give the sheet of P-MIN' 's/(rounds )<=( counts\[REF_P_MIN)/\1<\2/'
+
+# What planning hands back
+mutant 'part length always that of P-MIN' 's/(p.length = .*)\[p.mark\]/\1[REF_P_MIN]/'
+mutant 'counts of the two plans exchanged' \
+    '/^void ref_planned_numbers/,/^}/{s/REF_P_MIN/REF_LEFT/;s/REF_P_CON/REF_P_MIN/;s/REF_LEFT/REF_P_CON/}'
+mutant 'reports a fetch it did not make' \
+    '/^unsigned ref_plan/,/^}/s/^    p.mark = /    p.counts[1].fetches[7] += job.disks == 8;\n&/'
+mutant 'only the chosen sheet is written' \
+    's/^        ref_write_sheet\(/        if (k == (int)choose(p.counts)) ref_write_sheet(/'
+mutant 'buffers left untouched' 's/^        ref_write_sheet\(/        if (k > 2) ref_write_sheet(/'
+mutant 'a byte past the sheet changed' \
+    '/^size_t ref_write_sheet/,/^}/s/memset\(buf, 0, len\)/memset(buf, 0, len < room ? len + 1 : len)/'
+mutant 'a byte past the lent buffer changed' \
+    '/^size_t ref_write_sheet/,/^}/s/memset\(buf, 0, len\)/memset(buf, 0, len == room ? len + 1 : len)/'
+mutant '18 tested before 17' \
+    's/p.sheet_length\[k\] > room\[k\]/p.sheet_length[1 - k] > room[1 - k]/;s/return 17 \+ k/return 18 - k/'
+mutant 'exact room refused' 's/p.sheet_length\[k\] > room/p.sheet_length[k] >= room/'
+mutant 'sheet of P-MIN written although 18' \
+    's/^            return 17 \+ k;/&\n        else ref_write_sheet(schedule[k], p.counts[k].rounds, job.disks, buffer[k], room[k]);/'
+mutant 'a number cut in the middle is left out' 's/k < len && k < 2/k < len - len % 2 \&\& k < 2/'
+mutant 'least significant byte first' 's/k % 2 == 0 \? numbers/k % 2 == 1 ? numbers/'
+
+# The ticket
+mutant '8 disks refused' 's/disks > REF_DISKS/disks >= REF_DISKS/'
+mutant '64 slots refused' 's/> REF_SLOTS/>= REF_SLOTS/'
+mutant '512 blocks refused' 's/blocks > REF_BLOCKS/blocks >= REF_BLOCKS/'
+mutant '2048 references refused' 's/> REF_REFERENCES/>= REF_REFERENCES/'
+mutant '9 disks accepted' 's/disks > REF_DISKS/disks > REF_DISKS + 1/;s/return 3;/{ if (d < 8) return 3; }/'
+mutant '65 slots accepted' 's/> REF_SLOTS/> REF_SLOTS + 1/'
+mutant '513 blocks accepted' 's/blocks > REF_BLOCKS/blocks > REF_BLOCKS + 1/;s/disk\[REF_BLOCKS\]/disk[REF_BLOCKS + 1]/'
+mutant 'a disk of D accepted' 's/if \(v >= job->disks\)/if (v > job->disks)/;s/^(        job->disk\[b\] = ).*/\1(uint8_t)(v % job->disks);/'
+mutant '2049 references accepted' 's/references > REF_REFERENCES/references > REF_REFERENCES + 1/;s/^    return closes\(&r\).*/    if (job->references > REF_REFERENCES) return 7;\n&/'
+mutant 'a reference of B accepted' 's/^        if \(v >= job->blocks\)/        if (v > job->blocks)/;s/^(        job->reference\[i\] = ).*/\1(uint16_t)(v % job->blocks);/'
+mutant '7 tested after all references are read' \
+    '/^unsigned ref_read_ticket/,/^}/{s/unsigned v;/unsigned v, late = 0;/;s/return 7;/late = 7;/;s/return closes/return late ? late : closes/}'
+mutant '5 tested after all disks are read' \
+    '/^unsigned ref_read_ticket/,/^}/{s/unsigned v;/unsigned v, late = 0;/;s/return 5;/late = 5;/;s/^    if \(!field\(&r, 12/    if (late) return late;\n&/}'
+mutant '3 tested after all slots are read' \
+    '/^unsigned ref_read_ticket/,/^}/{s/unsigned v;/unsigned v, late = 0;/;s/return 3;/late = 3;/;s/^    if \(!field\(&r, 10/    if (late) return late;\n&/}'
+mutant 'closing bits not looked at' 's/field\(r, \(unsigned\)left, &bits\) && bits == 0/true/'
+mutant 'a byte after the end accepted' 's/left < 8 && (field.*);/left >= 8 || (\1);/'
+
+# The check
+mutant '2048 rounds refused' 's/> REF_ROUNDS/>= REF_ROUNDS/'
+mutant '2049 rounds accepted' 's/> REF_ROUNDS/> REF_ROUNDS + 1/'
+mutant 'a fetched block of B accepted' \
+    's/^    if \(v >= job->blocks \|\| job->disk\[v\] != d\)/    if (v == job->blocks \&\& v > 0 \&\& job->disk[v - 1] == d) v--;\n&/'
+mutant '12 tested before 11' \
+    's/^    if \(v >= job->blocks \|\| job->disk\[v\] != d\)/    if (s->resident[v]) return 12;\n&/'
+mutant '13 tested late, after the round' \
+    's/return s->held.* 13;/return 0;/
+     /^static unsigned check_rounds/,/^}/s/^        next_read = consume/for (unsigned d = 0; d < job->disks; d++) if (s.held[d] > job->slots[d]) return 13;\n&/'
+mutant '13 late, after the whole sheet is read' \
+    's/return s->held.* 13;/return 0;/
+     /^static unsigned check_rounds/,/^}/s/^    if \(next_read < /for (unsigned d = 0; d < job->disks; d++) if (s.held[d] > job->slots[d]) return 13;\n&/'
+mutant '11 and 12 tested after the whole action' \
+    '/^static unsigned check_action/,/^}/{s/unsigned v;/unsigned v, late = 0;/;s/return 1([12]);/late = late ? late : 1\1;/
+     s/return s->held/return late ? late : s->held/;s/^        return 14;/        return late ? late : 14;/;s/^    return 0;/    return late;/}'
+mutant 'one block too many held' 's/held\[d\] < job->slots\[d\] \? 0/held[d] <= job->slots[d] ? 0/'
+mutant 'a block of another disk discarded' 's/job->disk\[v\] != d \|\| !s/!s/'
+mutant 'the fetched block itself discarded' 's/\|\| !s->resident\[v\]\)/|| (!s->resident[v] \&\& v != a->fetch))/'
+mutant 'a discard beside an empty slot refused (L3)' \
+    's/^    a->discard = /    if (s->held[d] < job->slots[d]) return 14;\n&/'
+mutant '16 tested before 15' \
+    '/^static unsigned check_rounds/,/^}/s/^    if \(next_read < /    if (!closes(r)) return 16;\n&/'
+mutant 'unfinished sheets pass' 's/return 15;/return closes(r) ? 0 : 16;/'
+mutant 'every job called unfinished' 's/return closes\(r\) \? 0 : 16/return 15/'
+mutant 'rounds charged to the last reference only (L7)' \
+    '/^static unsigned check_rounds/,/^}/s/^        next_read = consume.*/if (next_read == job->references) idle++;\n&/
+     s/^    unsigned next_read = 0;/    unsigned next_read = 0, idle = 0;/
+     s/return closes\(r\) \? 0 : 16;/{ counts->rounds -= (uint16_t)idle; return closes(r) ? 0 : 16; }/'
+mutant 'fetches counted to the last reference only' \
+    '/^static unsigned check_rounds/,/^}/s/\+= a.fetch != REF_NONE/+= a.fetch != REF_NONE \&\& next_read < job->references/'
+mutant 'a missing last bit read as 0' 's/if \(width > 8 \* r->len - r->at\)/if (width > 1 \&\& width > 8 * r->len - r->at)/'
+
+# Plans that are beaten
+searched 'P-CON never waits' "$no_wait"
+searched 'P-MIN waits too' "$all_wait"
+searched 'demand-only fetching' "$demand"
+searched 'P-CON discards a block due before U' "$early"
+
+echo "$tried mutants, $missed not caught"
+[ "$missed" -eq 0 ]

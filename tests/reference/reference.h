@@ -1,0 +1,76 @@
+/* reference.h - the planner of document 01, written from the papers alone.
+ *
+ * A reference to compare others with: tables and plain passes over the blocks, nothing clever.
+ * Every answer "number" is 0, or the number of the refusal in document 01. */
+#ifndef REFERENCE_H
+#define REFERENCE_H
+
+#include <stddef.h>
+#include <stdint.h>
+
+enum {
+    REF_DISKS = 8,
+    REF_SLOTS = 64,
+    REF_BLOCKS = 512,
+    REF_REFERENCES = 2048,
+    REF_ROUNDS = 2048,
+    REF_TICKET = 2507,         /* "The longest ticket has 2,507 bytes, */
+    REF_SHEET = 40962,         /*  the longest sheet 40,962." */
+    REF_NONE = 0xffff,         /* no block */
+    REF_PLANNED_NUMBERS = 20,  /* mark, part length, then 9 for each plan */
+    REF_CHECKED_NUMBERS = 9    /* rounds and eight fetch counts */
+};
+
+/* What a ticket says. */
+struct ref_job {
+    unsigned disks, slots[REF_DISKS];
+    unsigned blocks;
+    uint8_t disk[REF_BLOCKS];  /* the disk each block lies on */
+    unsigned references;
+    uint16_t reference[REF_REFERENCES];
+};
+
+/* What one disk does in one round. A schedule has rounds x disks of them, round by round. */
+struct ref_action {
+    uint16_t fetch, discard;   /* REF_NONE: no fetch, nothing discarded */
+};
+
+struct ref_counts {
+    uint16_t rounds, fetches[REF_DISKS];
+};
+
+enum ref_rule { REF_P_MIN = 0, REF_P_CON = 1 };  /* P-MIN and P-CON; also the marks */
+
+struct ref_planned {
+    uint16_t mark, length;             /* the part handed back: whose sheet, how long */
+    struct ref_counts counts[2];       /* by rule */
+    size_t sheet_length[2];            /* by rule */
+};
+
+/* Ticket to job. The job means nothing where the number is not 0. */
+unsigned ref_read_ticket(const uint8_t *ticket, size_t n, struct ref_job *job);
+
+/* Job to ticket, schedule to sheet. Both give the length needed and write nothing if it is more
+ * than room. Values are cut to their fields' widths. */
+size_t ref_write_ticket(const struct ref_job *job, uint8_t *buf, size_t room);
+size_t ref_write_sheet(const struct ref_action *schedule, unsigned rounds, unsigned disks,
+                       uint8_t *buf, size_t room);
+
+/* The schedule of one rule; room for references x disks actions. */
+void ref_run(const struct ref_job *job, enum ref_rule rule, struct ref_action *schedule,
+             struct ref_counts *counts);
+
+/* Planning: writes both sheets, or nothing if refused; then all of out is 0. */
+unsigned ref_plan(const uint8_t *ticket, size_t n, uint8_t *p_min, size_t ns,
+                  uint8_t *p_con, size_t np, struct ref_planned *out);
+
+/* The check; all of out is 0 if refused. */
+unsigned ref_check(const uint8_t *ticket, size_t n, const uint8_t *sheet, size_t m,
+                   struct ref_counts *out);
+
+/* The numbers a call from C writes, in order, and how it writes them. */
+void ref_planned_numbers(const struct ref_planned *planned, uint16_t *numbers);
+void ref_checked_numbers(const struct ref_counts *counts, uint16_t *numbers);
+void ref_fill_counts(const uint16_t *numbers, size_t how_many, uint8_t *counts, size_t len);
+
+#endif

@@ -1,0 +1,217 @@
+#!/bin/sh
+# check.sh - runs both tools and compares what they print with the files in expected/.
+#
+# usage: sh check.sh BUILD     (BUILD has the tools; an absolute path)
+# Each group below writes one transcript to BUILD/check/, with exit statuses.
+# The groups are called by name, at the end.
+# shellcheck disable=SC2317
+set -eu
+cd "$(dirname "$0")"
+out=$1/check
+rm -rf "$out"
+mkdir -p "$out"
+PATH=$1:$PATH
+
+# Hexadecimal to bytes, and back.
+unhex()
+{
+    # shellcheck disable=SC2046,SC2059
+    [ -z "$1" ] || printf "$(printf '\\%03o' $(echo "$1" | sed 's/../0x& /g'))"
+}
+
+hex()
+{
+    od -An -v -tx1 | tr -d ' \n'
+    echo
+}
+
+# run COMMAND...: what it prints, and its exit status.
+run()
+{
+    status=0
+    "$@" 2>&1 || status=$?
+    echo "status $status"
+    echo
+}
+
+# text TITLE LINES: a text made into a ticket.
+text()
+{
+    echo "== $1"
+    printf '%s\n' "$2" | sed 's/^/| /'
+    printf '%s\n' "$2" >"$out/text"
+    run ticket "$out/text" "$out/ticket"
+}
+
+# back TITLE TICKET: a ticket made into a text.
+back()
+{
+    echo "== $1"
+    echo "$2"
+    unhex "$2" >"$out/ticket"
+    run ticket -d "$out/ticket"
+}
+
+# show TITLE TICKET SHEET OPTION...: a sheet shown.
+show()
+{
+    echo "== $1"
+    unhex "$2" >"$out/ticket"
+    unhex "$3" >"$out/sheet"
+    shift 3
+    run sheet "$@" "$out/ticket" "$out/sheet"
+}
+
+# Cases A to G: from text to ticket and back, and both sheets.
+cases()
+{
+    while read -r case ticket p_min p_con; do
+        [ "$case" = '#' ] && continue
+        [ "$(ticket <"cases/$case.txt" | hex)" = "$ticket" ] || echo "$case: another ticket"
+        back "$case" "$ticket"
+        [ "$(ticket -d "$out/ticket" | ticket | hex)" = "$ticket" ] || echo "$case: not the same"
+        show "$case, P-MIN" "$ticket" "$p_min"
+        show "$case, P-CON" "$ticket" "$p_con"
+    done <cases/vectors.txt
+    show 'G, P-MIN, with names' "$G" "$G_P_MIN" -n cases/G.names
+    show 'G, P-CON, with names' "$G" "$G_P_CON" -n cases/G.names
+}
+
+# The greatest job: 8 disks, 512 blocks turn by turn, 2048 references.
+longest_text()
+{
+    for d in 0 1 2 3 4 5 6 7; do
+        echo "disk $d slots 64"
+        seq "$d" 8 511 | sed 's/^/  blocks /'
+    done
+    for turn in 1 2 3 4; do
+        seq 511 -1 0 | sed "s/^/read /;1s/\$/  # turn $turn/"
+    done
+}
+
+# Odd texts that are good, up to the longest.
+good()
+{
+    echo '== the longest ticket'
+    run eval 'longest_text | ticket - "$out/ticket"'
+    wc -c <"$out/ticket" | tr -d ' '
+    run ticket -d "$out/ticket" "$out/text"
+    sed -n '1,6p;$p' "$out/text"
+    run eval 'ticket <"$out/text" | cmp - "$out/ticket"'
+    echo '== one reference more'
+    run eval '{ longest_text; echo read 0; } | ticket'
+    text 'a disk without blocks' "$(printf 'disk 0 slots 64 blocks\ndisk 1 slots 1 blocks 0-511')"
+    run ticket -d "$out/ticket"
+    echo '== comments, blanks, line ends of both kinds, no line end at the end'
+    printf '#disk\n\n \tdisk 0 slots 1#\r\n  blocks 1 0\r\nread\nread 1 # 0\nread 0' >"$out/text"
+    run eval 'ticket <"$out/text" | ticket -d'
+}
+
+# Malformed texts: first those for which document 01 has a number.
+texts()
+{
+    text 'no disk' '# nothing here'
+    text 'a ninth disk' "$(for d in 0 1 2 3 4 5 6 7 8; do echo "disk $d slots 1 blocks $d"; done)"
+    text 'no slots' 'disk 0 slots 0 blocks 0'
+    text '65 slots' 'disk 0 slots 65 blocks 0'
+    text 'no blocks' 'disk 0 slots 1 blocks'
+    text 'block 512' 'disk 0 slots 1 blocks 0-512'
+    text 'a read of a block that is not there' "$(printf 'disk 0 slots 1 blocks 0-7\nread 7 8')"
+    text 'a read before any disk' 'read 0'
+    text 'an unknown word' "$(printf '# one\ndisc 0 slots 1 blocks 0')"
+    text 'disks out of order' 'disk 1 slots 1 blocks 0'
+    text 'no number of the disk' 'disk'
+    text 'slots left out' 'disk 0 blocks 0'
+    text 'no number of slots' 'disk 0 slots'
+    text 'slots in words' 'disk 0 slots three blocks 0'
+    text 'a word too many' 'disk 0 slots 3 block 0'
+    text 'blocks before the disk' 'blocks 0'
+    text 'a block placed twice' "$(printf 'disk 0 slots 1 blocks 0-3\ndisk 1 slots 1 blocks 3')"
+    text 'a block left out' "$(printf 'disk 0 slots 1 blocks 0 1\nblocks 3\n\nread 0')"
+    text 'a range backwards' 'disk 0 slots 1 blocks 3-0'
+    text 'a range without an end' 'disk 0 slots 1 blocks 0-'
+    text 'a negative number' 'disk 0 slots 1 blocks -1'
+    text 'a range to read' "$(printf 'disk 0 slots 1 blocks 0-3\nread 0-3')"
+    text 'a disk after a read' "$(printf 'disk 0 slots 1 blocks 0\nread 0\ndisk 1 slots 1')"
+    text 'a long word' 'disk 0 slots 1 blocks 000000000000000000000000'
+    echo '== a ticket taken for a text'
+    unhex "$G" >"$out/ticket"
+    run ticket "$out/ticket"
+}
+
+# Damaged tickets, in the order of the numbers 1 to 8.
+tickets()
+{
+    back '1: empty' ''
+    back '1: inside the slots' 10
+    back '1: inside the blocks' 1020
+    back '1: inside the disk of a block' 20204040
+    back '1: inside the references' 102008
+    back '1: inside a reference' 1020080010
+    back '2: no disks' 00
+    back '2: nine disks' 90
+    back '3: no slots' 1000
+    back '3: 65 slots' 182008001000
+    back '4: no blocks' 102000
+    back '4: 513 blocks' 103008
+    back '5: block 0 on disk 1 of one' 102009001000
+    back '6: 2049 references' 102008801000
+    back '7: block 1 of one' 102008001008
+    back '8: a closing bit' 102008001001
+    back '8: a byte more' 10200800100000
+    back '8: a byte more, past a byte edge' 10200800400000000000
+    show 'a sheet for a damaged ticket' 102009001000 001800
+}
+
+# Damaged sheets, in the order of the numbers 9 to 16, and odd ones that pass.
+sheets()
+{
+    show '9: empty' "$G" ''
+    show '9: inside round 4' "$G" 0068010220140a8090320380a0
+    show '10: 2049 rounds' "$G" 8010
+    show '11: a block of the other disk' "$G" 0068010180
+    show '11: a block that is not there' "$G" 006801022080
+    show '12: fetched twice' "$G" 006801022000
+    show '13: four blocks in three slots' "$G" 0068010220140a8090320380a070
+    show '14: the fetched block itself' "$G" 0068010220140a8090320380c0
+    show '14: a block of the other disk' "$G" 0068010220140a809032038100
+    show '14: a block that is not there' "$G" 0068010220140a80903203ffc0 -n cases/G.names
+    show '15: case H' "$A" 0000
+    show '15: three rounds of six' "$G" 0038010220140a809030 -n cases/G.names
+    show '16: a closing bit' "$G" 0068010220140a8090320380a078120280e0481e038090
+    show '16: a byte more' "$A" 00180000
+    show '16: a byte more, past a byte edge' "$A" 00280000
+    show 'rounds after the last reference' "$A" 00380000
+    show 'a discard beside an empty slot' "$F" 00440480101c0500c01011024040
+    show 'names for other blocks' "$A" 001800 -n cases/G.names
+}
+
+# Bad usage.
+usage()
+{
+    for call in 'ticket -x' 'ticket a b c' 'ticket none' 'ticket -d none' \
+        'ticket cases/A.txt none/none' 'sheet' 'sheet a' 'sheet a b c' 'sheet -n a' \
+        'sheet -x a' 'sheet - -' 'sheet none cases/A.txt' 'sheet cases/A.txt none'; do
+        echo "== $call"
+        # The words of the call are its arguments.
+        # shellcheck disable=SC2086
+        run $call
+    done
+}
+
+vector()
+{
+    sed -n "s/^$1 //p" cases/vectors.txt | cut -d ' ' -f "$2"
+}
+
+A=$(vector A 1) F=$(vector F 1) G=$(vector G 1) G_P_MIN=$(vector G 2) G_P_CON=$(vector G 3)
+bad=0
+for group in cases good texts tickets sheets usage; do
+    $group >"$out/$group.out"
+    diff -u "expected/$group.out" "$out/$group.out" || bad=1
+done
+for number in $(seq 1 16); do
+    grep -q "^refused $number: " "$out"/*.out || { echo "number $number is not met"; bad=1; }
+done
+[ $bad -eq 0 ] && echo 'check: all as expected'
+exit $bad

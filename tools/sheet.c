@@ -1,0 +1,278 @@
+/* sheet.c - a sheet shown as a table of rounds, in the manner of Figure 1 of document 000. */
+#include "job.h"
+
+#include <stdio.h>
+#include <stdlib.h>
+#include <string.h>
+
+enum { NONE = MAX_BLOCKS, LONGEST_NAME = 15 };
+
+/* What blocks are called: their numbers, or the names given. */
+static char name[MAX_BLOCKS][LONGEST_NAME + 1];
+
+/* What one disk does in one round. */
+struct action {
+    unsigned fetch, discard;   /* NONE: no fetch, nothing discarded */
+};
+
+/* The state of the buffers and what has happened so far. */
+struct play {
+    const struct job *job;
+    bool resident[MAX_BLOCKS];
+    unsigned held[MAX_DISKS];
+    unsigned fetches[MAX_DISKS];
+    unsigned next_read;
+    int width;                 /* of a disk's column */
+};
+
+/* ---- Reading a sheet ---- */
+
+/* Where a field is. */
+struct place {
+    unsigned round, disk;
+};
+
+static bool ends_early(struct place at, struct refusal *refusal)
+{
+    return refuse(refusal, 9, "the sheet ends inside round %u, disk %u", at.round, at.disk);
+}
+
+static bool read_fetch(struct fields *f, const struct play *play, struct place at,
+                       unsigned *block, struct refusal *refusal)
+{
+    const struct job *job = play->job;
+
+    if (!take(f, 9, block))
+        return ends_early(at, refusal);
+    if (*block >= job->blocks)
+        return refuse(refusal, 11, "round %u, disk %u fetches block %u, and the last block is %u",
+                      at.round, at.disk, *block, job->blocks - 1);
+    if (job->disk_of[*block] != at.disk)
+        return refuse(refusal, 11, "round %u, disk %u fetches block %s, which lies on disk %u",
+                      at.round, at.disk, name[*block], job->disk_of[*block]);
+    if (play->resident[*block])
+        return refuse(refusal, 12, "round %u, disk %u fetches block %s, which is in its buffer",
+                      at.round, at.disk, name[*block]);
+    return true;
+}
+
+static bool read_discard(struct fields *f, const struct play *play, struct place at,
+                         struct action *action, struct refusal *refusal)
+{
+    unsigned bit;
+
+    if (!take(f, 1, &bit))
+        return ends_early(at, refusal);
+    if (bit == 0 && play->held[at.disk] == play->job->slots[at.disk])
+        return refuse(refusal, 13, "round %u, disk %u fetches block %s and discards nothing, "
+                      "though every slot is taken", at.round, at.disk, name[action->fetch]);
+    if (bit == 0)
+        return true;
+    if (!take(f, 9, &action->discard))
+        return ends_early(at, refusal);
+    if (!play->resident[action->discard] || play->job->disk_of[action->discard] != at.disk)
+        return refuse(refusal, 14, "round %u, disk %u discards block %s, which is not in its "
+                      "buffer", at.round, at.disk, name[action->discard]);
+    return true;
+}
+
+static bool read_action(struct fields *f, const struct play *play, struct place at,
+                        struct action *action, struct refusal *refusal)
+{
+    unsigned bit;
+
+    *action = (struct action){NONE, NONE};
+    if (!take(f, 1, &bit))
+        return ends_early(at, refusal);
+    if (bit == 0)
+        return true;
+    return read_fetch(f, play, at, &action->fetch, refusal)
+        && read_discard(f, play, at, action, refusal);
+}
+
+/* ---- Playing and showing ---- */
+
+/* The discarded block leaves, then the fetched one enters. */
+static void act(struct play *play, unsigned d, struct action action)
+{
+    char cell[2 * LONGEST_NAME + 2];
+
+    if (action.discard != NONE) {
+        play->resident[action.discard] = false;
+        play->held[d]--;
+    }
+    if (action.fetch != NONE) {
+        play->resident[action.fetch] = true;
+        play->held[d]++;
+        play->fetches[d]++;
+    }
+    snprintf(cell, sizeof cell, "%s/%s", action.fetch == NONE ? "-" : name[action.fetch],
+             action.discard == NONE ? "-" : name[action.discard]);
+    printf("  %-*s", play->width, cell);
+}
+
+/* References are consumed up to the first block that is not resident, or to the end. */
+static void consume(struct play *play)
+{
+    const struct job *job = play->job;
+    const char *before = "  ";
+    unsigned first = play->next_read;
+
+    while (play->next_read < job->references
+           && play->resident[job->reference[play->next_read]]) {
+        printf("%s%s", before, name[job->reference[play->next_read++]]);
+        before = ", ";
+    }
+    puts(play->next_read == first ? "  -" : "");
+}
+
+static void print_header(const struct play *play)
+{
+    char cell[LONGEST_NAME + 1];
+
+    fputs("round", stdout);
+    for (unsigned d = 0; d < play->job->disks; d++) {
+        snprintf(cell, sizeof cell, "disk %u", d);
+        printf("  %-*s", play->width, cell);
+    }
+    puts("  read");
+}
+
+/* One row; it breaks off with '?' at an action that is refused. */
+static bool play_round(struct fields *f, struct play *play, unsigned round,
+                       struct refusal *refusal)
+{
+    printf("%5u", round);
+    for (unsigned d = 0; d < play->job->disks; d++) {
+        struct place at = {round, d};
+        struct action action;
+
+        if (!read_action(f, play, at, &action, refusal)) {
+            puts("  ?");
+            return false;
+        }
+        act(play, d, action);
+    }
+    consume(play);
+    return true;
+}
+
+static void print_totals(const struct play *play, unsigned rounds)
+{
+    printf("\nrounds %u\n", rounds);
+    for (unsigned d = 0; d < play->job->disks; d++)
+        printf("disk %u fetches %u\n", d, play->fetches[d]);
+}
+
+/* The whole sheet; false if it is refused. */
+static bool show(struct fields *f, struct play *play, struct refusal *refusal)
+{
+    const struct job *job = play->job;
+    unsigned rounds;
+
+    if (!take(f, 12, &rounds))
+        return refuse(refusal, 9, "the sheet ends inside the number of rounds");
+    if (rounds > MAX_ROUNDS)
+        return refuse(refusal, 10, "a sheet has at most %d rounds, not %u", MAX_ROUNDS, rounds);
+    print_header(play);
+    for (unsigned round = 1; round <= rounds; round++)
+        if (!play_round(f, play, round, refusal))
+            return false;
+    if (play->next_read < job->references)
+        return refuse(refusal, 15, "%u of %u references are left after the last round, "
+                      "block %s is next", job->references - play->next_read, job->references,
+                      name[job->reference[play->next_read]]);
+    if (!closes(f, 16, refusal))
+        return false;
+    print_totals(play, rounds);
+    return true;
+}
+
+/* ---- Names ---- */
+
+static void number_blocks(void)
+{
+    for (unsigned b = 0; b < MAX_BLOCKS; b++)
+        snprintf(name[b], sizeof name[b], "%u", b);
+}
+
+/* A name for every block, in block order, with blanks or line ends between. */
+static void read_names(const char *path, unsigned blocks)
+{
+    FILE *from = fopen(path, "r");
+    char word[LONGEST_NAME + 1];
+    unsigned found = 0;
+
+    if (from == NULL) {
+        perror(path);
+        exit(BAD_USAGE);
+    }
+    for (; fscanf(from, "%15s", word) == 1; found++)
+        if (found < blocks)
+            strcpy(name[found], word);
+    fclose(from);
+    if (found != blocks) {
+        fprintf(stderr, "%s: names %u, blocks %u; a name has at most %d characters\n", path,
+                found, blocks, LONGEST_NAME);
+        exit(BAD_INPUT);
+    }
+}
+
+/* Room for "disk 0" and for every action of this job. */
+static int column_width(unsigned blocks)
+{
+    size_t longest = 0;
+
+    for (unsigned b = 0; b < blocks; b++)
+        if (strlen(name[b]) > longest)
+            longest = strlen(name[b]);
+    return longest < 3 ? 6 : (int)(2 * longest + 1);
+}
+
+/* ---- The program ---- */
+
+static _Noreturn void usage(void)
+{
+    fputs("usage: sheet [-n names] ticket sheet\n"
+          "  shows a sheet for a ticket as a table of rounds; names has one for each block\n",
+          stderr);
+    exit(BAD_USAGE);
+}
+
+/* Shows the sheet, or says why it or its ticket is refused. */
+static int show_files(const char *ticket, const char *sheet, const char *names)
+{
+    static uint8_t ticket_bytes[LONGEST_TICKET + 1], sheet_bytes[LONGEST_SHEET + 1];
+    static struct job job;
+    size_t length = read_bytes(ticket, ticket_bytes, sizeof ticket_bytes);
+    struct fields f = {sheet_bytes, read_bytes(sheet, sheet_bytes, sizeof sheet_bytes), 0};
+    struct play play = {.job = &job};
+    struct refusal refusal;
+    bool good = read_ticket(ticket_bytes, length, &job, &refusal);
+
+    number_blocks();
+    if (good && names != NULL)
+        read_names(names, job.blocks);
+    if (good) {
+        play.width = column_width(job.blocks);
+        good = show(&f, &play, &refusal);
+    }
+    if (!good)
+        printf("refused %u: %s\n", refusal.number, refusal.why);
+    finish_output();
+    return good ? GOOD : BAD_INPUT;
+}
+
+int main(int argc, char **argv)
+{
+    const char *names = NULL;
+
+    if (argc > 2 && strcmp(argv[1], "-n") == 0) {
+        names = argv[2];
+        argc -= 2;
+        argv += 2;
+    }
+    if (argc != 3 || (argv[1][0] == '-' && (argv[1][1] != '\0' || strcmp(argv[2], "-") == 0)))
+        usage();
+    return show_files(argv[1], argv[2], names);
+}
