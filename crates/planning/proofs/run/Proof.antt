@@ -1,3 +1,4 @@
+-- `planning::run` meets its contract. Assumes nothing.
 use borrow.Author.Needs.{needs}
 use Rattle.planning.proofs.Setting.{counted, refs-few, refs-small, setting-of, right-of, header-fits, run-ends}
 use Rattle.planning.proofs.run.Statement.{statement}
@@ -9,29 +10,24 @@ use Rattle.lookup.proofs.index.Reads as index-reads
 use Rattle.planning.proofs.heading.put_header.Reads as put-header-reads
 use Rattle.planning.proofs.play_rounds.Reads as play-rounds-reads
 
--- src/lib.rt:110:16
 array-share-prefix-all : tie.Need-array-share-prefix-all
 array-share-prefix-all c = search needs
 
--- src/lib.rt:110:9
 slice-aggregate-refs : tie.Need-slice-aggregate-refs
 slice-aggregate-refs c =
     let e = c .before .before .before .before .before in
     counted (e .args .job) (e .pre .0)
 
--- src/lib.rt:115:5
 index-requires : tie.Need-index-requires
 index-requires c κs =
     let e = c .before .before .before .before .before .before .before in
     (refs-few (e .args .job) (e .pre .0), refs-small (e .args .job) (e .pre .0))
 
--- src/lib.rt:116:5
 chain-requires : tie.Need-chain-requires
 chain-requires c κs =
     let e = c .before .before .before .before .before .before .before .before .before .before .before in
     (refs-few (e .args .job) (e .pre .0), refs-small (e .args .job) (e .pre .0), λ i l. e .pre .0 .smallDisk i)
 
--- src/lib.rt:118:9
 play-rounds-requires : tie.Need-play-rounds-requires
 play-rounds-requires c κs =
     let e = c .before .before .before .before .before .before .before .before .before .before .before .before .before .before .before .before .before .before .before .before in
@@ -39,18 +35,15 @@ play-rounds-requires c κs =
     let h = c .before .before .before .before .before .before .before .before .chain .ensures in
     (setting-of (e .args .job) (e .pre .0) _ _ (i .1) (h .1), (right-of (e .args .job) (e .pre .0) _ _ (i .0) (h .0), e .pre .1))
 
--- src/lib.rt:132:5
 put-header-requires : tie.Need-put-header-requires
 put-header-requires c κs =
     let e = c .before .before .before .before .before .before .before .before .before .before .before .before .before .before .before .before .before .before .before .before .before .before .before .before in
     let p = c .before .before .before .play-rounds .ensures in
     header-fits (e .args .job) (e .pre .0) (e .args .sparing) _ _ (p .0) (p .1)
 
--- src/lib.rt:100:1
 same-length : tie.Need-same-length
 same-length c = search needs
 
--- src/lib.rt:100:1
 returns : tie.Need-returns
 returns c =
     let e = c .before .before .before .before .before .before .before .before .before .before .before .before .before .before .before .before .before .before .before .before .before .before .before .before .before .before .before in

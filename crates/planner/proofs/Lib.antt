@@ -1,0 +1,5 @@
+pub mod Numbers
+pub mod Laws
+pub mod Rooms
+pub mod Laying
+pub mod Exports

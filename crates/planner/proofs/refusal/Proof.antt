@@ -1,0 +1,14 @@
+-- `planner::refusal` meets its contract. Assumes nothing.
+use mathlib.Core.Path.{refl}
+use Rattle.planner.specs.Planner.{plannedAs}
+use Rattle.planner.proofs.refusal.Statement.{statement}
+use Rattle.planner.proofs.refusal.Tie as tie
+use Rattle.planner.proofs.refusal.Reads as reads
+use Rattle.planner.proofs.refusal.Lts as lts
+
+returns : tie.Need-returns
+unfolding plannedAs
+returns c = refl
+
+pub refusal-spec : {M : Type 1} → statement M
+refusal-spec = tie.close (tie.spec returns)
