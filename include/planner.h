@@ -1,0 +1,95 @@
+/* planner.h - plans for parallel disks that no schedule beats
+ *
+ * A job lists the blocks it will read, in order. Up to eight disks, each with a few buffer slots of its own, fetch them: in one round every disk
+ * may fetch one block, discarding another where its slots are full; then the job is read on until a block is missing.
+ *
+ *   planner_plan    makes two plans of a job: the short one (P-MIN), which takes the fewest rounds, and the sparing one (P-CON), which takes the
+ *                   fewest fetches on every disk; and says which one to run: the sparing one exactly when both take equally many rounds.
+ *   planner_check   passes a sheet exactly if it is a valid schedule of the ticket, whoever drew it up.
+ *
+ * A ticket is a job as bytes, a sheet a schedule as bytes. No sheet that planner_check passes for a ticket takes fewer rounds than the short plan,
+ * or on any disk fewer fetches than the sparing plan. This, each result and every byte written are proved of the source; the compiler is trusted.
+ *
+ * Rules for every call:
+ *   - Each slice is a pointer and a length in bytes. A pointer may be null only with the length 0.
+ *   - Slices that a call writes must not overlap each other or any other slice of the call.
+ *   - The calls keep nothing, allocate nothing, and may be made from several threads at once. A planning call has two scratch
+ *     sheets of 40,968 bytes on the stack, besides its tables.
+ *   - A call returns 0, or the number of its refusal (enum planner_number). A refused call changes no lent byte.
+ */
+#ifndef PLANNER_H
+#define PLANNER_H
+
+#include <stddef.h>
+#include <stdint.h>
+
+#ifdef __cplusplus
+extern "C" {
+#endif
+
+/* Sizes in bytes. */
+#define PLANNER_LONGEST_TICKET 2507   /* no accepted ticket is longer */
+#define PLANNER_LONGEST_SHEET 40962   /* no sheet that passes is longer: a buffer of this size holds any plan */
+#define PLANNER_PLAN_COUNTS 40        /* what planner_plan writes to `counts` */
+#define PLANNER_CHECK_COUNTS 18       /* what planner_check writes to `counts` */
+
+/* Why a call is refused. Fields are read in order, and the first condition that is met counts. */
+enum planner_number {
+    PLANNER_OK = 0,                   /* not refused */
+    /* the ticket, in either call */
+    PLANNER_TICKET_ENDS = 1,          /* it ends inside a field that is due */
+    PLANNER_TICKET_DISKS = 2,         /* disks: not 1 to 8 */
+    PLANNER_TICKET_SLOTS = 3,         /* slots of a disk: not 1 to 64 */
+    PLANNER_TICKET_BLOCKS = 4,        /* blocks: not 1 to 512 */
+    PLANNER_TICKET_BLOCK_DISK = 5,    /* a block lies on a disk that the job has not */
+    PLANNER_TICKET_REFERENCES = 6,    /* references: more than 2048 */
+    PLANNER_TICKET_REFERENCE = 7,     /* a reference to a block that the job has not */
+    PLANNER_TICKET_CLOSING = 8,       /* closing bits that are not zero, or a byte after them */
+    /* the sheet, in planner_check */
+    PLANNER_SHEET_ENDS = 9,           /* it ends inside a field that is due */
+    PLANNER_SHEET_ROUNDS = 10,        /* rounds: more than 2048 */
+    PLANNER_SHEET_FETCHED = 11,       /* a fetched block that is not one of that disk's blocks */
+    PLANNER_SHEET_RESIDENT = 12,      /* a fetched block that is already in the buffer */
+    PLANNER_SHEET_FULL = 13,          /* nothing is discarded though every slot is taken */
+    PLANNER_SHEET_DISCARDED = 14,     /* a discarded block that is not in that disk's buffer */
+    PLANNER_SHEET_UNFINISHED = 15,    /* references are left after the last round */
+    PLANNER_SHEET_CLOSING = 16,       /* closing bits that are not zero, or a byte after them */
+    /* the rooms, in planner_plan */
+    PLANNER_SHORT_ROOM = 17,          /* the short sheet has more bytes than its buffer */
+    PLANNER_SPARING_ROOM = 18         /* the sparing sheet has more bytes than its buffer */
+};
+
+/* Plans a ticket.
+ *
+ *   ticket         read only
+ *   short_sheet    the short plan's sheet is written at its start; the bytes after the sheet do not change
+ *   sparing_sheet  the same for the sparing plan
+ *   counts         twenty numbers of 16 bits, most significant byte first, as far as the slice reaches (its length may be 0):
+ *                    0       the mark: 0 to run the short sheet, 1 to run the sparing sheet
+ *                    1       the length of the sheet to run, in bytes, at the start of its buffer
+ *                    2..10   the short plan: its rounds, and its fetches on disks 0 to 7 (0 for disks that the job has not)
+ *                    11..19  the sparing plan: the same
+ *
+ * Returns 0, or 1 to 8, 17 or 18. A refusal writes nothing. Each written sheet passes planner_check with the counts given here. */
+uint32_t planner_plan(const uint8_t *ticket, size_t ticket_length,
+                      uint8_t *short_sheet, size_t short_length,
+                      uint8_t *sparing_sheet, size_t sparing_length,
+                      uint8_t *counts, size_t counts_length);
+
+/* Checks a sheet for a ticket.
+ *
+ *   ticket, sheet  read only
+ *   counts         nine numbers of 16 bits, most significant byte first, as far as the slice reaches (its length may be 0):
+ *                    0       the sheet's rounds
+ *                    1..8    its fetches on disks 0 to 7
+ *
+ * Returns 0 if the sheet is a valid schedule of the ticket's job, else 1 to 16. A refusal writes nothing. */
+uint32_t planner_check(const uint8_t *ticket, size_t ticket_length,
+                       const uint8_t *sheet, size_t sheet_length,
+                       uint8_t *counts, size_t counts_length);
+
+#ifdef __cplusplus
+}
+#endif
+
+#endif
