@@ -33,3 +33,14 @@ bool one_in(struct chance *c, unsigned n)
 {
     return below(c, n) == 0;
 }
+
+void fill(struct chance *c, uint8_t *bytes, size_t len)
+{
+    uint64_t eight = 0;
+
+    for (size_t k = 0; k < len; k++) {
+        if (k % 8 == 0)
+            eight = bits(c);
+        bytes[k] = (uint8_t)(eight >> 8 * (k % 8));
+    }
+}

@@ -1,0 +1,389 @@
+/* draw.c - jobs, schedules and damage drawn by chance. */
+#include "draw.h"
+
+#include <string.h>
+
+enum { SELDOM = 1000000 };     /* one in so many: next to never */
+
+/* ---- Jobs ---- */
+
+struct sizes {
+    unsigned share;            /* of 1000 jobs */
+    unsigned disks, slots, blocks, references;
+    bool exactly;              /* these sizes, not up to them */
+};
+
+static const struct sizes sizes[] = {
+    {600, 4, 3, 12, 30, false},
+    {260, 8, 5, 40, 90, false},
+    {120, 8, 16, 150, 400, false},
+    {14, 8, 64, 512, 2048, false},
+    {6, 8, 64, 512, 2048, true},
+};
+
+static const struct sizes *draw_sizes(struct chance *c)
+{
+    unsigned at = below(c, 1000), k = 0;
+
+    while (at >= sizes[k].share)
+        at -= sizes[k++].share;
+    return &sizes[k];
+}
+
+static unsigned draw_size(struct chance *c, unsigned low, unsigned most, bool exactly)
+{
+    return exactly ? most : between(c, low, most);
+}
+
+static void draw_slots(struct chance *c, const struct sizes *s, struct ref_job *job)
+{
+    unsigned same = draw_size(c, 1, s->slots, s->exactly && one_in(c, 2));
+    bool equal = one_in(c, 2);
+
+    for (unsigned d = 0; d < job->disks; d++)
+        job->slots[d] = equal ? same : between(c, 1, one_in(c, 16) ? REF_SLOTS : s->slots);
+}
+
+/* Blocks by chance, in turn, in stretches, or all on one disk. */
+static void draw_places(struct chance *c, struct ref_job *job)
+{
+    unsigned how = below(c, 8), one = below(c, job->disks);
+
+    for (unsigned b = 0; b < job->blocks; b++) {
+        unsigned d = how < 4 ? below(c, job->disks)
+                   : how < 6 ? b % job->disks
+                   : how < 7 ? b * job->disks / job->blocks : one;
+
+        job->disk[b] = (uint8_t)d;
+    }
+}
+
+/* The next block after b on the same disk, going round. */
+static unsigned neighbour(const struct ref_job *job, unsigned b)
+{
+    unsigned d = job->disk[b];
+
+    do
+        b = (b + 1) % job->blocks;
+    while (job->disk[b] != d);
+    return b;
+}
+
+enum pattern { UNIFORM, SKEWED, PHASES, CYCLIC, REPEATED, STRETCHES, PATTERNS };
+
+struct habit {
+    enum pattern pattern;
+    unsigned set, length;      /* size of a working set or cycle; length of a phase or stretch */
+    unsigned noise;            /* one in so many references is any block */
+};
+
+static unsigned draw_reference(struct chance *c, const struct ref_job *job,
+                               const struct habit *h, unsigned i, unsigned last)
+{
+    unsigned any = below(c, job->blocks), second = below(c, job->blocks);
+
+    if (i == 0 || one_in(c, h->noise))
+        return any;
+    switch (h->pattern) {
+    case SKEWED:
+        return any * second / job->blocks;
+    case PHASES:
+        return (i / h->length * 5 + below(c, h->set)) % job->blocks;
+    case CYCLIC:
+        return i % h->set;
+    case REPEATED:
+        return one_in(c, 3) ? any : last;
+    case STRETCHES:            /* a disk's blocks one after the other, then another disk's */
+        return i % h->length == 0 ? any : neighbour(job, last);
+    default:
+        return any;
+    }
+}
+
+static void draw_references(struct chance *c, struct ref_job *job)
+{
+    struct habit h;
+    unsigned last = 0;
+
+    h.pattern = (enum pattern)below(c, PATTERNS);
+    h.set = between(c, 1, one_in(c, 2) || job->blocks < 6 ? job->blocks : 6);
+    h.length = between(c, 1, one_in(c, 4) ? 100 : 10);
+    h.noise = one_in(c, 2) ? SELDOM : between(c, 2, 20);
+    for (unsigned i = 0; i < job->references; i++) {
+        last = draw_reference(c, job, &h, i, last);
+        job->reference[i] = (uint16_t)last;
+    }
+}
+
+void draw_job(struct chance *c, struct ref_job *job)
+{
+    const struct sizes *s = draw_sizes(c);
+
+    job->disks = draw_size(c, 1, s->disks, s->exactly);
+    draw_slots(c, s, job);
+    job->blocks = draw_size(c, 1, s->blocks, s->exactly);
+    draw_places(c, job);
+    job->references = draw_size(c, 0, s->references, s->exactly);
+    draw_references(c, job);
+}
+
+/* ---- Schedules ---- */
+
+/* A run in progress, kept here on its own so that nothing is borrowed from the reference. */
+struct run {
+    const struct ref_job *job;
+    bool in[REF_BLOCKS];
+    unsigned held[REF_DISKS], next_read;
+    unsigned idle;             /* one action in so many is idle, where allowed */
+    unsigned free;             /* one fetch in so many discards beside an empty slot */
+    unsigned wise;             /* the discarded block is the last due of so many */
+};
+
+/* Some block of disk d that is in the buffer, or out of it; REF_NONE if there is none. */
+static unsigned some_block(struct chance *c, const struct run *run, unsigned d, bool in)
+{
+    unsigned start = below(c, run->job->blocks);
+
+    for (unsigned k = 0; k < run->job->blocks; k++) {
+        unsigned b = (start + k) % run->job->blocks;
+
+        if (run->job->disk[b] == d && run->in[b] == in)
+            return b;
+    }
+    return REF_NONE;
+}
+
+/* The block of disk d, outside the buffer, that is due first; else any outside. */
+static unsigned due_block(struct chance *c, const struct run *run, unsigned d)
+{
+    for (unsigned i = run->next_read; i < run->job->references; i++) {
+        unsigned b = run->job->reference[i];
+
+        if (run->job->disk[b] == d && !run->in[b])
+            return b;
+    }
+    return some_block(c, run, d, false);
+}
+
+/* How many references come before the next one of b; looks 100 ahead at most. */
+static unsigned due_in(const struct run *run, unsigned b)
+{
+    unsigned k = 0;
+
+    while (k < 100 && run->next_read + k < run->job->references &&
+           run->job->reference[run->next_read + k] != b)
+        k++;
+    return run->next_read + k < run->job->references ? k : 100;
+}
+
+/* A buffered block of disk d to discard: the last due of a few. */
+static unsigned some_victim(struct chance *c, const struct run *run, unsigned d)
+{
+    unsigned victim = some_block(c, run, d, true);
+
+    for (unsigned k = 1; k < run->wise; k++) {
+        unsigned other = some_block(c, run, d, true);
+
+        if (due_in(run, other) > due_in(run, victim))
+            victim = other;
+    }
+    return victim;
+}
+
+/* An allowed action. A wise run fetches what is due first and discards nothing due before it. */
+static struct ref_action draw_action(struct chance *c, const struct run *run, unsigned d,
+                                     bool demanded)
+{
+    struct ref_action a = {REF_NONE, REF_NONE};
+
+    if (!demanded && one_in(c, run->idle))
+        return a;
+    a.fetch = (uint16_t)(demanded || run->wise > 1 || one_in(c, 2)
+                             ? due_block(c, run, d) : some_block(c, run, d, false));
+    if (a.fetch == REF_NONE)
+        return a;
+    if (run->held[d] == run->job->slots[d] || (run->held[d] > 0 && one_in(c, run->free)))
+        a.discard = (uint16_t)some_victim(c, run, d);
+    if (a.discard != REF_NONE && !demanded && run->wise > 1 &&
+        due_in(run, a.discard) < due_in(run, a.fetch))
+        return (struct ref_action){REF_NONE, REF_NONE};
+    return a;
+}
+
+static void play_round(struct chance *c, struct run *run, bool demand, struct ref_action *actions)
+{
+    const struct ref_job *job = run->job;
+    unsigned next = run->next_read;
+
+    for (unsigned d = 0; d < job->disks; d++) {
+        bool demanded = demand && next < job->references && job->disk[job->reference[next]] == d;
+        struct ref_action a = draw_action(c, run, d, demanded);
+
+        if (a.discard != REF_NONE)
+            run->in[a.discard] = false;
+        if (a.fetch != REF_NONE)
+            run->in[a.fetch] = true;
+        run->held[d] += (a.fetch != REF_NONE) - (a.discard != REF_NONE);
+        actions[d] = a;
+    }
+    while (run->next_read < job->references && run->in[job->reference[run->next_read]])
+        run->next_read++;
+}
+
+unsigned draw_schedule(struct chance *c, const struct ref_job *job, enum ending ending,
+                       struct ref_action *schedule)
+{
+    struct run run = {.job = job};
+    unsigned rounds = 0, more = 0, lazy = between(c, 2, 6);
+
+    run.wise = one_in(c, 2) ? 1 : between(c, 2, 4);
+    run.free = run.wise > 1 ? SELDOM : between(c, 1, 10);
+    run.idle = one_in(c, run.wise > 1 ? 2 : 5) ? SELDOM : between(c, 1, 6);
+    while (run.next_read < job->references) {
+        bool must = REF_ROUNDS - rounds <= job->references - run.next_read;
+
+        play_round(c, &run, must || run.wise > 1 || !one_in(c, lazy),
+                   schedule + rounds * job->disks);
+        rounds++;
+    }
+    if (ending == UNFINISHED && rounds > 0)
+        return below(c, rounds);
+    if (ending == LATE)
+        more = one_in(c, 30) ? REF_ROUNDS : between(c, 1, 9);
+    for (; more > 0 && rounds < REF_ROUNDS; more--, rounds++)
+        play_round(c, &run, false, schedule + rounds * job->disks);
+    return rounds;
+}
+
+static void spoil_action(struct chance *c, const struct ref_job *job, struct ref_action *a)
+{
+    switch (below(c, 10)) {
+    case 0: a->fetch = (uint16_t)below(c, REF_BLOCKS); break;
+    case 1: a->fetch = (uint16_t)below(c, job->blocks); break;
+    case 2: a->fetch = (uint16_t)job->blocks; break;
+    case 3: a->discard = (uint16_t)below(c, REF_BLOCKS); break;
+    case 4: a->discard = (uint16_t)below(c, job->blocks); break;
+    case 5: a->discard = (uint16_t)job->blocks; break;
+    case 6: a->discard = a->fetch; break;
+    case 7: *a = (struct ref_action){REF_NONE, REF_NONE}; break;
+    default: a->discard = REF_NONE; break;
+    }
+}
+
+void spoil_schedule(struct chance *c, const struct ref_job *job, struct ref_action *schedule,
+                    unsigned rounds)
+{
+    unsigned actions = rounds * job->disks, at = below(c, actions);
+
+    for (unsigned tries = 0; tries < 20 && actions > 0 && schedule[at].fetch == REF_NONE; tries++)
+        at = below(c, actions);
+    for (bool more = actions > 0; more; more = ++at < actions && one_in(c, 2))
+        spoil_action(c, job, &schedule[at]);
+}
+
+/* ---- Damage ---- */
+
+/* Lays a value over a field of written bytes. */
+static void poke(uint8_t *bytes, size_t at, unsigned width, unsigned value)
+{
+    for (unsigned k = 0; k < width; k++, at++) {
+        uint8_t mask = (uint8_t)(0x80 >> at % 8);
+
+        if (value >> (width - 1 - k) & 1)
+            bytes[at / 8] |= mask;
+        else
+            bytes[at / 8] &= (uint8_t)~mask;
+    }
+}
+
+/* A value above the highest allowed, often the next one. */
+static unsigned above(struct chance *c, unsigned highest, unsigned width)
+{
+    return one_in(c, 2) ? highest + 1 : between(c, highest + 1, (1u << width) - 1);
+}
+
+static unsigned zero_or_above(struct chance *c, unsigned highest, unsigned width)
+{
+    return one_in(c, 3) ? 0 : above(c, highest, width);
+}
+
+static size_t damage(struct chance *c, uint8_t *bytes, size_t len)
+{
+    unsigned at;
+
+    switch (below(c, 7)) {
+    case 0:                    /* bits flipped */
+        for (unsigned k = between(c, 1, 3); len > 0 && k > 0; k--) {
+            at = below(c, 8 * (unsigned)len);
+            bytes[at / 8] ^= (uint8_t)(1u << at % 8);
+        }
+        return len;
+    case 1:                    /* cut, often within the first few fields */
+        return below(c, len > 8 && one_in(c, 2) ? 8 : (unsigned)len);
+    case 2:                    /* cut by one byte */
+        return len == 0 ? 0 : len - 1;
+    case 3:                    /* extended by zeros */
+        memset(bytes + len, 0, SPARE / 2);
+        return len + between(c, 1, SPARE / 2);
+    case 4:                    /* extended by chance */
+        fill(c, bytes + len, SPARE / 2);
+        return len + between(c, 1, SPARE / 2);
+    case 5:                    /* closing bits set, if there are any */
+        if (len > 0)
+            bytes[len - 1] |= (uint8_t)(1u << (one_in(c, 2) ? 0 : below(c, 7)));
+        return len;
+    default:                   /* anything */
+        fill(c, bytes, len);
+        return len;
+    }
+}
+
+static size_t damage_ticket_once(struct chance *c, const struct ref_job *job, uint8_t *bytes,
+                                 size_t len)
+{
+    size_t blocks = 4 + 7 * job->disks, references = blocks + 10 + 3 * job->blocks;
+    unsigned d = below(c, job->disks), b = below(c, job->blocks);
+    unsigned i = below(c, job->references);
+
+    switch (below(c, 12)) {
+    case 0: poke(bytes, 0, 4, zero_or_above(c, REF_DISKS, 4)); return len;
+    case 1: poke(bytes, 4 + 7 * d, 7, zero_or_above(c, REF_SLOTS, 7)); return len;
+    case 2: poke(bytes, blocks, 10, zero_or_above(c, REF_BLOCKS, 10)); return len;
+    case 3: poke(bytes, references, 12, above(c, REF_REFERENCES, 12)); return len;
+    case 4: poke(bytes, references, 12, job->references + 1); return len;
+    case 5:
+        if (job->disks < REF_DISKS)
+            poke(bytes, blocks + 10 + 3 * b, 3, above(c, job->disks - 1, 3));
+        return len;
+    case 6:
+        if (job->references > 0 && job->blocks < REF_BLOCKS)
+            poke(bytes, references + 12 + 9 * i, 9, above(c, job->blocks - 1, 9));
+        return len;
+    default:
+        return damage(c, bytes, len);
+    }
+}
+
+static size_t damage_sheet_once(struct chance *c, uint8_t *bytes, size_t len)
+{
+    unsigned rounds = (unsigned)bytes[0] << 4 | bytes[1] >> 4;
+
+    switch (below(c, 10)) {
+    case 0: poke(bytes, 0, 12, above(c, REF_ROUNDS, 12)); return len;
+    case 1: poke(bytes, 0, 12, rounds + 1); return len;
+    case 2: poke(bytes, 0, 12, rounds == 0 ? 0 : rounds - 1); return len;
+    default: return damage(c, bytes, len);
+    }
+}
+
+size_t damage_ticket(struct chance *c, const struct ref_job *job, uint8_t *bytes, size_t len)
+{
+    len = damage_ticket_once(c, job, bytes, len);
+    return one_in(c, 2) ? damage_ticket_once(c, job, bytes, len) : len;
+}
+
+size_t damage_sheet(struct chance *c, uint8_t *bytes, size_t len)
+{
+    len = damage_sheet_once(c, bytes, len);
+    return one_in(c, 2) ? damage_sheet_once(c, bytes, len) : len;
+}

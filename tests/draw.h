@@ -1,0 +1,28 @@
+/* draw.h - jobs, schedules and damage drawn by chance. */
+#ifndef DRAW_H
+#define DRAW_H
+
+#include "reference/chance.h"
+#include "reference/reference.h"
+
+/* A job within document 01's limits: mostly small, now and then at the very limits. */
+void draw_job(struct chance *c, struct ref_job *job);
+
+/* A schedule of allowed actions; gives its rounds, at most REF_ROUNDS.
+ * FINISHED ends with the round that consumes the last reference, LATE has rounds after it,
+ * UNFINISHED leaves references (unless there are none). */
+enum ending { FINISHED, LATE, UNFINISHED };
+unsigned draw_schedule(struct chance *c, const struct ref_job *job, enum ending ending,
+                       struct ref_action *schedule);
+
+/* Changes an action, and maybe some after it, mostly into ones that the check refuses. */
+void spoil_schedule(struct chance *c, const struct ref_job *job, struct ref_action *schedule,
+                    unsigned rounds);
+
+/* Damage to written bytes, once or twice; gives the new length, at most SPARE more. The bytes'
+ * array must have room for the written length and SPARE more. */
+enum { SPARE = 8 };
+size_t damage_ticket(struct chance *c, const struct ref_job *job, uint8_t *bytes, size_t len);
+size_t damage_sheet(struct chance *c, uint8_t *bytes, size_t len);
+
+#endif
