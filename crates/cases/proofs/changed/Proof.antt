@@ -1,0 +1,54 @@
+-- `changed` meets its contract. The measure is the number of bytes not looked at. Assumes nothing.
+use borrow.Author.Needs.{needs}
+use native.Mathlib.Omega.{arith}
+use Prim.Native.Nat.{_≤_}
+use lib.ListN.{length}
+use Rattle.cases.proofs.changed.Statement.{statement}
+use Rattle.cases.proofs.changed.Tie as tie
+use Rattle.cases.proofs.changed.Reads as reads
+use Rattle.cases.proofs.changed.Lts as lts
+
+abbrev Inv-loop : tie.InvT-loop
+Inv-loop lent n₀ n = n ≤ length lent
+
+abbrev μ-loop : tie.MeasureT-loop
+μ-loop lent n₀ n = n
+
+loop-holds : tie.Need-loop-holds Inv-loop μ-loop
+loop-holds c = search needs
+
+sub-if1 : tie.Need-sub-if1 Inv-loop μ-loop
+sub-if1 c = search needs
+
+shared-slice-read-if1 : tie.Need-shared-slice-read-if1 Inv-loop μ-loop
+shared-slice-read-if1 c = search needs
+
+returns : tie.Need-returns Inv-loop μ-loop
+returns c = search needs
+
+sub-n : tie.Need-sub-n Inv-loop μ-loop
+sub-n c = search needs
+
+loop-less : tie.Need-loop-less Inv-loop μ-loop
+loop-less c = search needs
+
+loop-again : tie.Need-loop-again Inv-loop μ-loop
+loop-again c = search needs
+
+returns-2 : tie.Need-returns-2 Inv-loop μ-loop
+returns-2 c = search needs
+
+pub changed-spec : {M : Type 1} → statement M
+changed-spec =
+    tie.close
+    (tie.spec
+    Inv-loop
+    μ-loop
+    loop-holds
+    sub-if1
+    shared-slice-read-if1
+    returns
+    sub-n
+    loop-less
+    loop-again
+    returns-2)
