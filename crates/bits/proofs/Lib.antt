@@ -5,3 +5,4 @@ pub mod Leading
 pub mod Fields
 mod Window
 mod Stores
+mod Closing

@@ -1,7 +1,8 @@
 -- Tests, and facts about every value of a list. Assumes nothing.
 use mathlib.Core.Path.{_≡_, refl, sym, _∙_}
 use mathlib.Core.List.{List, [], _∷_}
-use Prim.Native.Nat.{ℕ, zero, suc, _<_}
+use Prim.Native.Nat.{ℕ, zero, suc, _≤_, _<_}
+use native.Mathlib.Omega.{arith}
 use native.Mathlib.Nat.{le-of-suc-le-suc, not-suc-le-zero}
 use lib.ListN.{length, getD}
 use mathlib.Core.Bool.{Bool, true, false, _&&_, _||_, true≢false}
@@ -10,6 +11,11 @@ use mathlib.Core.Bool.{Bool, true, false, _&&_, _||_, true≢false}
 pub by-test : {P : Type 0} (t : Bool) → (t ≡ true → P) → (t ≡ false → P) → P
 by-test true f g = f refl
 by-test false f g = g refl
+
+-- a number that is not 0
+pub some-number : (n : ℕ) → (n ≡ 0 → ⊥) → 1 ≤ n
+some-number zero g = absurd (g refl)
+some-number (suc n) g = omega arith
 
 -- a test has one value
 pub clash : {P : Type 0} {t : Bool} → t ≡ true → t ≡ false → P

@@ -1,6 +1,6 @@
 -- What is known of a reader that gave a value: each law takes one step apart and hands its parts to what follows. Assumes nothing.
 use mathlib.Core.Path.{_≡_, refl, ap, _∙_, subst}
-use mathlib.Core.Bool.{Bool, true, false, _&&_}
+use mathlib.Core.Bool.{Bool, true, false, cond, _&&_}
 use mathlib.Core.List.{List, [], _∷_}
 use Prim.Native.Nat.{ℕ, zero, suc, _+_, _*_, _<_}
 use native.Mathlib.Nat.{suc-mul}
@@ -9,8 +9,8 @@ use lib.Dec.{ltb}
 use lib.ListN.{length}
 use borrow.Author.Tests.{ltb-true, lt-ltb}
 use Rattle.bits.specs.Bits.{bits}
-use Rattle.bits.specs.Reading.{given, refused, Read, got, stop, Reader, bind, _>>=_, _>>_, give, fieldAfter, field, refuseIf, many, allZero, closing, answer, readAll}
-use Rattle.bits.proofs.Logic.{and-left, and-right, Each}
+use Rattle.bits.specs.Reading.{given, refused, Read, got, stop, Reader, bind, _>>=_, _>>_, give, fieldAfter, field, refuseIf, many, allZero, isClosed, closing, answer, readAll}
+use Rattle.bits.proofs.Logic.{by-test, and-left, and-right, Each}
 
 -- a refusal is no value
 pub stop-got : {A P : Type 0} {n : ℕ} {a : A} {l : List ℕ} → stop n ≡ got a l → P
@@ -63,7 +63,7 @@ field-length n w l e = fieldAfter-length n w 0 l e
 -- the end: fewer than eight bits were left, all zero
 pub closing-got : {P : Type 0} (n : ℕ) (l : List ℕ) {u : Unit {0}} {rest : List ℕ} → closing n l ≡ got u rest
     → (length l < 8 → allZero l ≡ true → P) → P
-unfolding closing
+unfolding closing isClosed
 closing-got {P} n l {u} {rest} e k = go (ltb (length l) 8 && allZero l) refl e
   where
     go : (t : Bool) → ltb (length l) 8 && allZero l ≡ t → elim t as (λ x. Read (Unit {0})) [ true ↦ got tt [] | false ↦ stop n ] ≡ got u rest → P
@@ -114,8 +114,19 @@ unfolding refuseIf
 refuse-ok n t l e = rw e
 
 pub closing-ok : (n : ℕ) (l : List ℕ) → length l < 8 → allZero l ≡ true → closing n l ≡ got tt []
-unfolding closing
+unfolding closing isClosed
 closing-ok n l p z = let e : ltb (length l) 8 && allZero l ≡ true = rw (lt-ltb (length l) 8 p, z) in rw (e, closing)
+
+-- what a reader of the end makes of it
+pub closing-is : (n : ℕ) (l : List ℕ) → closing n l ≡ cond (isClosed l) (got tt []) (stop n)
+unfolding closing
+closing-is n l = by-test (isClosed l) (λ e. rw (e, closing)) (λ e. rw (e, closing))
+
+pub closing-open : (n : ℕ) (l : List ℕ) → isClosed l ≡ false → closing n l ≡ stop n
+closing-open n l e = closing-is n l ∙ ap (λ (t : Bool). cond t (got tt []) (stop n)) e
+
+pub closing-closed : (n : ℕ) (l : List ℕ) → isClosed l ≡ true → closing n l ≡ got tt []
+closing-closed n l e = closing-is n l ∙ ap (λ (t : Bool). cond t (got tt []) (stop n)) e
 
 pub readAll-ok : {A : Type 0} (r : Reader A) (s : List ℕ) {a : A} {rest : List ℕ} → r (bits s) ≡ got a rest → readAll r s ≡ given a
 unfolding readAll answer

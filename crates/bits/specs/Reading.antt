@@ -64,10 +64,15 @@ unfoldable pub allZero : List ℕ → Bool
 allZero [] = true
 allZero (b ∷ l) = eqb b 0 && allZero l
 
--- The end: fewer than eight bits are left, up to the byte's edge, and all are zero; refused with n otherwise.
+-- The end: fewer than eight bits are left, up to the byte's edge, and all are zero.
+unfoldable pub isClosed : List ℕ → Bool
+unfolding allZero
+isClosed l = ltb (length l) 8 && allZero l
+
+-- Refused with n where it is not the end.
 unfoldable pub closing : ℕ → Reader (Unit {0})
-unfolding refuseIf allZero
-closing n l = elim (ltb (length l) 8 && allZero l) [ true ↦ got tt [] | false ↦ stop n ]
+unfolding isClosed
+closing n l = elim (isClosed l) [ true ↦ got tt [] | false ↦ stop n ]
 
 -- A whole string of bytes, read by a reader that ends in `closing`.
 unfoldable pub answer : {A : Type 0} → Read A → Answer A

@@ -4,6 +4,7 @@ ghost use mathlib.Core.Path.{_≡_};
 ghost use Prim.Native.Nat.{_*_, _^_, _≤_, _<_};
 ghost use lib.ListN.{getD, drop};
 ghost use Rattle.bits.specs.Bits.{bits, leading};
+ghost use Rattle.bits.specs.Reading.{isClosed};
 ghost use Rattle.bits.specs.Fields.{fieldAt};
 
 // The byte at i, 0 past the end.
@@ -34,4 +35,18 @@ pub fn field(s: &[u8], at: usize, width: usize) -> Field
     } else {
         Field::Ended
     }
+}
+
+// The end: fewer than eight bits are left after the bit `at`, all zero.
+pub fn closed(s: &[u8], at: usize) -> bool
+    requires { ⌜ at < 2 ^ 32 ⌝ }
+    ensures { λ r. ⌜ r ≡ isClosed (drop at (bits (now (s .entry)))) ⌝ }
+{
+    if (at + 7) / 8 < s.len() {
+        return false;
+    }
+    if at / 8 < s.len() {
+        return (s[at / 8] as usize) % (1 << (8 - at % 8)) == 0;
+    }
+    true
 }

@@ -2,7 +2,7 @@
 -- Assumes nothing.
 use mathlib.Core.Path.{_≡_, refl, sym, ap, _∙_}
 use mathlib.Core.Logic.{_≢_}
-use mathlib.Core.Bool.{Bool, true, false, cond, _&&_}
+use mathlib.Core.Bool.{Bool, true, false, cond}
 use mathlib.Core.List.{List, [], _∷_}
 use Prim.Native.Nat.{ℕ, zero, suc, _+_, _≤_, _<_}
 use native.Mathlib.Omega.{arith}
@@ -11,7 +11,8 @@ use lib.ListN.{length, getD, drop, replicate, length-set, getD-replicate}
 use lib.Seq.{getD-set-same, getD-set-other}
 use borrow.Author.Tests.{lt-ltb, le-ltb}
 use Rattle.bits.specs.Bits.{bits}
-use Rattle.bits.specs.Reading.{Answer, given, refused, Read, got, stop, Reader, bind, _>>=_, _>>_, give, field, refuseIf, allZero, closing, answer, readAll}
+use Rattle.bits.specs.Reading.{Answer, given, refused, Read, got, stop, Reader, bind, _>>=_, _>>_, give, field, refuseIf, isClosed, closing, answer, readAll}
+use Rattle.bits.proofs.Reading.{closing-is}
 use Rattle.bits.specs.Fields.{fieldAt, readOf}
 use Rattle.bits.specs.declared.Field.{Field}
 use Rattle.bits.specs.declared.Field.the-variants.{Value, Ended}
@@ -24,7 +25,7 @@ use Rattle.model.specs.Plans.{each}
 use Rattle.model.specs.Sheet.{actionReader, roundReader, roundsReader, sheetReader, scheduleRead}
 use Rattle.model.specs.Calls.{Counts, countsOf, passOf}
 use Rattle.model.proofs.Sheets.{rounds-read}
-use Rattle.checking.specs.Checking.{isClosed, counted, goOn, endOf, disksFrom, roundsFrom, played}
+use Rattle.checking.specs.Checking.{counted, goOn, endOf, disksFrom, roundsFrom, played}
 
 -- Going on after a reading.
 
@@ -167,10 +168,6 @@ pass-goes (got schedule rest) = refl
 pass-goes (stop n) = refl
 
 -- what follows the last round
-closing-is : (n : ℕ) (l : List ℕ) → closing n l ≡ cond (isClosed l) (got tt []) (stop n)
-unfolding closing isClosed
-closing-is n l = by-test (ltb (length l) 8 && allZero l) (λ t. rw (t, closing)) (λ t. rw (t, closing))
-
 module _ (schedule : Schedule) (n : ℕ) (f : List ℕ) (e : n ≡ length schedule) (p : f ≡ each (fetches schedule) 0 8) where
   closed-goes : (t : Bool) → goOn (bind {A = Unit {0}} (cond t (got tt []) (stop 16)) (λ a. give schedule)) passed
       ≡ cond t (given (record { rounds = n; fetches = f })) (refused 16)

@@ -1,4 +1,3 @@
 pub mod Actions
-pub mod Closing
 pub mod Laws
 pub mod Rounds

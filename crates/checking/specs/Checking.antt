@@ -4,9 +4,9 @@ use mathlib.Core.Bool.{Bool, cond, not, _&&_, _||_}
 use mathlib.Core.List.{List}
 use Prim.Native.Nat.{ℕ, zero, suc, _+_}
 use lib.Dec.{ltb, leb, eqb}
-use lib.ListN.{length, getD, set, drop, replicate}
+use lib.ListN.{getD, set, drop, replicate}
 use Rattle.bits.specs.Bits.{bits}
-use Rattle.bits.specs.Reading.{Answer, given, refused, Read, got, stop, allZero}
+use Rattle.bits.specs.Reading.{Answer, given, refused, Read, got, stop, isClosed}
 use Rattle.bits.specs.Fields.{fieldAt}
 use Rattle.bits.specs.declared.Field.{Field}
 use Rattle.bits.specs.declared.Field.the-variants.{Value, Ended}
@@ -51,11 +51,6 @@ actionAt s at blocks disk marks d full =
     onField (fieldAt s at 1) λ bit. cond (eqb bit 0) Idle
     (onField (fieldAt s (at + 1) 9) λ x. cond (notOn blocks disk d x) (Refused 11)
     (cond (isResident marks x) (Refused 12) (discardAt s (at + 10) blocks disk marks d x full)))
-
--- The end of a sheet: fewer than eight bits are left, all zero.
-unfoldable pub isClosed : List ℕ → Bool
-unfolding allZero
-isClosed l = ltb (length l) 8 && allZero l
 
 -- The fetches of each disk after one more action of disk d.
 unfoldable pub counted : List ℕ → ℕ → Action → List ℕ

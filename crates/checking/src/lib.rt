@@ -10,7 +10,7 @@ ghost use Rattle.bits.specs.Reading.{refused};
 ghost use Rattle.job.specs.Meaning.{Fits, jobOf};
 ghost use Rattle.model.specs.Sheet.{scheduleRead};
 ghost use Rattle.model.specs.Calls.{passOf};
-ghost use Rattle.checking.specs.Checking.{checkedOf, discardAt, actionAt, isClosed, endOf, played};
+ghost use Rattle.checking.specs.Checking.{checkedOf, discardAt, actionAt, endOf, played};
 
 // What the check gives: its number, 0 for a pass; the sheet's rounds, and its fetches on each disk. A refusal has all counts 0.
 pub struct Checked {
@@ -117,20 +117,6 @@ fn action(
     discard(sheet, at + 10, blocks, disk, resident, d, x, full)
 }
 
-// The end: fewer than eight bits are left after the bit `at`, all zero.
-fn closed(sheet: &[u8], at: usize) -> bool
-    requires { ⌜ at < 2 ^ 32 ⌝ }
-    ensures { λ r. ⌜ r ≡ isClosed (drop at (bits (now (sheet .entry)))) ⌝ }
-{
-    if (at + 7) / 8 < sheet.len() {
-        return false;
-    }
-    if at / 8 < sheet.len() {
-        return (sheet[at / 8] as usize) % (1 << (8 - at % 8)) == 0;
-    }
-    true
-}
-
 // What follows the last round; `left` says that references are left.
 fn ending(sheet: &[u8], at: usize, left: bool, rounds: usize, fetches: [u16; 8]) -> Checked
     requires { ⌜ at < 2 ^ 32 ⌝ }
@@ -139,7 +125,7 @@ fn ending(sheet: &[u8], at: usize, left: bool, rounds: usize, fetches: [u16; 8])
     if left {
         return refusal(15);
     }
-    if closed(sheet, at) {
+    if bits::read::closed(sheet, at) {
         Checked {
             number: 0,
             rounds,

@@ -4,7 +4,7 @@
 use mathlib.Core.Path.{_≡_, refl}
 use mathlib.Core.List.{List, [], _∷_}
 use Prim.Native.Nat.{ℕ, zero, suc, _/_, _%_, _^_}
-use Rattle.bits.specs.Reading.{Answer, given, refused, bind, _>>=_, _>>_, give, field, refuseIf, many, closing, answer, readAll}
+use Rattle.bits.specs.Reading.{Answer, given, refused, bind, _>>=_, _>>_, give, field, refuseIf, many, isClosed, closing, answer, readAll}
 use Rattle.model.specs.Job.{Job}
 use Rattle.model.specs.Ticket.{slotsField, diskField, refField, ticketReader, ticketOf}
 use Rattle.model.specs.Playing.{noneResident, load, play}
@@ -76,7 +76,7 @@ abbrev ticketG : List ℕ
 ticketG = hex 32 0x2060c080002490150000404040180002050301c0404028180001010100600008
 
 pub table : List Case
-unfolding hex outcome _>>=_ _>>_ bind give field refuseIf many closing answer readAll slotsField diskField refField ticketReader ticketOf discardReader fetchReader actionReader roundReader roundsReader sheetReader scheduleRead play load noneResident
+unfolding hex outcome _>>=_ _>>_ bind give field refuseIf many isClosed closing answer readAll slotsField diskField refField ticketReader ticketOf discardReader fetchReader actionReader roundReader roundsReader sheetReader scheduleRead play load noneResident
 table =
     -- A: "one disk, one slot, one block, string 0. Both sheets 00 18 00; 1 round; sparing"
     row (read ticketA) (jobWith (1 ∷ []) (0 ∷ []) (0 ∷ [])) refl ∷

@@ -5,6 +5,7 @@ pub mod Playing
 pub mod Buffers
 pub mod Sheets
 pub mod Check
+pub mod Numbers
 pub mod Longest
 pub mod Distances
 pub mod Choosing

@@ -6,7 +6,7 @@ use native.Mathlib.Nat.{add-comm, zero-mul, suc-mul}
 use native.Mathlib.Omega.{arith}
 use lib.ListN.{length, replicate, length-append}
 use Rattle.bits.specs.Bits.{digits, bits, bytesFor, pack}
-use Rattle.bits.specs.Reading.{given, bind, _>>=_, _>>_, give, field, refuseIf, many, closing, answer, readAll}
+use Rattle.bits.specs.Reading.{given, bind, _>>=_, _>>_, give, field, refuseIf, many, isClosed, closing, answer, readAll}
 use Rattle.bits.proofs.Logic.{Each}
 use Rattle.bits.proofs.Bits.{length-digits, length-bits, length-pack}
 use Rattle.bits.proofs.Reading.{readAll-given}
@@ -35,7 +35,7 @@ longTicket = pack (digits 4 8 ++ digits 56 0x02040810204081 ++ digits 10 512 ++ 
 
 -- and one is that long
 pub ticket-longest : (ticketOf longTicket ≡ given (record { slots = replicate 8 1; disks = replicate 512 0; refs = replicate 2048 0 })) × (length longTicket ≡ 2507)
-unfolding longTicket _>>=_ _>>_ bind give field refuseIf many closing answer readAll slotsField diskField refField ticketReader ticketOf
+unfolding longTicket _>>=_ _>>_ bind give field refuseIf many isClosed closing answer readAll slotsField diskField refField ticketReader ticketOf
 ticket-longest = (refl, refl)
 
 -- an action takes at most 20 bits

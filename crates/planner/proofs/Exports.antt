@@ -1,7 +1,7 @@
 -- What the C calls return and write. Assumes nothing.
 use mathlib.Core.Path.{_≡_, refl, sym, ap, _∙_}
 use mathlib.Core.List.{List, [], _∷_, _++_}
-use Prim.Native.Nat.{ℕ, zero, suc, _≤_}
+use Prim.Native.Nat.{ℕ, _≤_}
 use native.Mathlib.Omega.{arith}
 use lib.Dec.{ltb, eqb}
 use lib.ListN.{length, getD}
@@ -10,7 +10,7 @@ use mir.Syntax.{w32}
 use borrow.Author.Tests.{eqb-true, eqb-false}
 use Rattle.bits.specs.Bits.{laid}
 use Rattle.bits.specs.Reading.{Answer, given, refused}
-use Rattle.bits.proofs.Logic.{by-test}
+use Rattle.bits.proofs.Logic.{by-test, some-number}
 use Rattle.bits.proofs.Reading.{refused-given}
 use Rattle.model.specs.Playing.{Schedule}
 use Rattle.model.specs.Plans.{each}
@@ -94,10 +94,6 @@ plan-number t a b n e =
   where
     refused-same : {x y : ℕ} → _≡_ {A = Answer Answered} (refused x) (refused y) → x ≡ y
     refused-same p = cc
-
-    some-number : (m : ℕ) → (m ≡ 0 → ⊥) → 1 ≤ m
-    some-number zero g = absurd (g refl)
-    some-number (suc m) g = omega arith
 
     rooms : (p : Answered) → withRooms a b p ≡ refused n → (1 ≤ n) × (n ≤ 18)
     rooms p h =

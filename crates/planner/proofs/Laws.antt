@@ -1,13 +1,13 @@
 -- A ticket that is read, and what planning and the check then give. Assumes nothing.
 use mathlib.Core.Path.{_≡_, refl, sym, ap, _∙_, subst}
 use mathlib.Core.List.{List}
-use Prim.Native.Nat.{ℕ, zero, suc, _≤_}
+use Prim.Native.Nat.{ℕ, _≤_}
 use native.Mathlib.Omega.{arith}
 use lib.Dec.{eqb}
 use lib.ListN.{replicate}
 use Rattle.bits.specs.Reading.{Answer, given, refused}
 use borrow.Author.Tests.{eqb-true, eqb-false}
-use Rattle.bits.proofs.Logic.{by-test}
+use Rattle.bits.proofs.Logic.{by-test, some-number}
 use Rattle.bits.proofs.Reading.{refused-given}
 use Rattle.job.specs.Meaning.{jobOf, Fits}
 use Rattle.model.specs.Playing.{Schedule}
@@ -17,7 +17,7 @@ use Rattle.model.proofs.Promises.{unbeaten}
 use Rattle.ticket.specs.Meaning.{ticketRead}
 use Rattle.ticket.specs.declared.Ticket.{Ticket}
 use Rattle.ticket.proofs.Laws.{read-given, read-refused, read-fits, read-number}
-use Rattle.planner.proofs.Numbers.{sheet-number}
+use Rattle.model.proofs.Numbers.{sheet-number}
 use Rattle.checking.specs.Checking.{checkedOf}
 use Rattle.checking.specs.declared.Checked.{Checked}
 use Rattle.planner.specs.Planner.{Unbeaten}
@@ -44,10 +44,6 @@ check-number t s n e =
   where
     refused-same : {a b : ℕ} → _≡_ {A = Answer Counts} (refused a) (refused b) → a ≡ b
     refused-same p = cc
-
-    some-number : (m : ℕ) → (m ≡ 0 → ⊥) → 1 ≤ m
-    some-number zero g = absurd (g refl)
-    some-number (suc m) g = omega arith
 
     from : (a : Answer Schedule) → scheduleRead (jobOf (ticketRead t .job)) s ≡ a → passOf a ≡ refused n → (1 ≤ n) × (n ≤ 16)
     from (given x) q h = refused-given (sym h)

@@ -1,4 +1,3 @@
-pub mod Numbers
 pub mod Laws
 pub mod Rooms
 pub mod Laying

@@ -1,5 +1,4 @@
 pub mod Entries
-pub mod Closing
 pub mod Filling
 pub mod Parts
 pub mod Stages

@@ -8,18 +8,17 @@ use lib.Dec.{ltb, leb, eqb, lit<, lit≤}
 use lib.ListN.{drop, replicate}
 use borrow.Author.Tests.{lt-ltb, le-ltb, ltb-true, eq-eqb, eqb-true}
 use Rattle.bits.specs.Bits.{bits}
-use Rattle.bits.specs.Reading.{refused, Read, got, stop, Reader, _>>=_, _>>_, give, field, refuseIf, many, closing, answer, readAll}
-use Rattle.bits.proofs.Reading.{stop-got, refused-given, then-ok, readAll-ok}
+use Rattle.bits.specs.Reading.{refused, Read, got, stop, Reader, _>>=_, _>>_, give, field, refuseIf, many, isClosed, closing, answer, readAll}
+use Rattle.bits.proofs.Reading.{stop-got, refused-given, then-ok, closing-open, closing-closed, readAll-ok}
 use Rattle.bits.proofs.Logic.{by-test, same-test}
 use Rattle.model.specs.Job.{Job}
 use Rattle.model.specs.Ticket.{slotsField, diskField, refField, ticketReader, ticketOf}
 use Rattle.job.specs.Meaning.{stored}
 use Rattle.ticket.specs.Meaning.{noTicket, answerOf, ticketRead}
-use Rattle.ticket.specs.Parts.{disksRow, slotsRow, blocksRow, diskRow, refsRow, refRow, Filled, partAt, closes}
+use Rattle.ticket.specs.Parts.{disksRow, slotsRow, blocksRow, diskRow, refsRow, refRow, Filled, partAt}
 use Rattle.ticket.specs.declared.Row.{Row}
 use Rattle.ticket.specs.declared.Part.{Part}
 use Rattle.ticket.proofs.Entries.{entry-reads}
-use Rattle.ticket.proofs.Closing.{closing-open, closing-closed}
 use Rattle.ticket.proofs.Parts.{then-stop, Numbered, Reads, PartRead, part-reads, Got, part-got, part-stop, part-numbered}
 
 -- the tests of the readers are those of the rows
@@ -157,16 +156,16 @@ module _ (t : List ℕ) where
     ends : ticketReader (bits t) ≡ afterRefs (a .values) (b .values) (r .count) (c .values) (drop (r .next) (bits t))
     ends = a .goes ∙ b .goes ∙ c .goes
 
-    pub open-refused : closes t (r .next) ≡ false → ticketRead t ≡ noTicket 8
-    open-refused e = stopped 8 (ends ∙ then-stop (closing 8) _ _ (closing-open 8 (r .next) t e))
+    pub open-refused : isClosed (drop (r .next) (bits t)) ≡ false → ticketRead t ≡ noTicket 8
+    open-refused e = stopped 8 (ends ∙ then-stop (closing 8) _ _ (closing-open 8 (drop (r .next) (bits t)) e))
 
-    pub accepted : closes t (r .next) ≡ true → ticketRead t ≡ record {
+    pub accepted : isClosed (drop (r .next) (bits t)) ≡ true → ticketRead t ≡ record {
       number = 0;
       job = record { disks = p .count; slots = slots; blocks = q .count; disk = disk; count = r .count; refs = refs };
     }
     unfolding ticketRead answerOf ticketOf stored give
     accepted e =
-        ap answerOf (readAll-ok ticketReader t (ends ∙ then-ok (closing 8) _ _ (closing-closed 8 (r .next) t e)))
+        ap answerOf (readAll-ok ticketReader t (ends ∙ then-ok (closing 8) _ _ (closing-closed 8 (drop (r .next) (bits t)) e)))
         ∙ (λ i. record {
           number = 0;
           job = record {
@@ -186,9 +185,9 @@ module _ (t : List ℕ) where
       part-numbered t 0 disksRow slotsRow 8 afterSlots _ slots-part e λ d slots at e.
       part-numbered t at blocksRow (diskRow d) 512 (afterDisks slots) _ (disks-part at d slots) e λ b disks at e.
       part-numbered t at refsRow (refRow b) 2048 (afterRefs slots disks) _ (refs-part at b slots disks) e λ k refs at e.
-      by-test (closes t at)
-      (λ c. stop-got (sym e ∙ then-ok (closing 8) _ _ (closing-closed 8 at t c)))
-      (λ c. let same : 8 ≡ n = stop-same (sym (then-stop (closing 8) _ _ (closing-open 8 at t c)) ∙ e) in
+      by-test (isClosed (drop at (bits t)))
+      (λ c. stop-got (sym e ∙ then-ok (closing 8) _ _ (closing-closed 8 (drop at (bits t)) c)))
+      (λ c. let same : 8 ≡ n = stop-same (sym (then-stop (closing 8) _ _ (closing-open 8 (drop at (bits t)) c)) ∙ e) in
       subst Numbered same (numbered 8 (lit≤ tt) (lit≤ tt)))
 
   pub refused-numbered : (n : ℕ) → ticketOf t ≡ refused n → Numbered n

@@ -1,11 +1,9 @@
 -- A ticket's parts, read from a position on: each is a count and then that many entries. Assumes nothing.
-use mathlib.Core.Bool.{Bool, true, false, _&&_, _||_}
+use mathlib.Core.Bool.{Bool, true, false, _||_}
 use mathlib.Core.List.{List}
 use Prim.Native.Nat.{ℕ, zero, suc, _+_}
 use lib.Dec.{ltb, leb}
-use lib.ListN.{length, drop, set}
-use Rattle.bits.specs.Bits.{bits}
-use Rattle.bits.specs.Reading.{allZero}
+use lib.ListN.{set}
 use Rattle.bits.specs.Fields.{fieldAt}
 use Rattle.bits.specs.declared.Field.{Field}
 use Rattle.bits.specs.declared.Field.the-variants.{Value, Ended}
@@ -74,7 +72,3 @@ fill t at row count i (suc k) table = filledBy (entryAt t at row) table λ v. fi
 unfoldable pub partAt : List ℕ → ℕ → Row → Row → List ℕ → Filled
 unfolding filledBy fill
 partAt t at counts entries table = filledBy (entryAt t at counts) table λ n. fill t (at + counts .width) entries n 0 n table
-
--- The closing bits: fewer than eight are left from the bit `at` on, and all are zero.
-unfoldable pub closes : List ℕ → ℕ → Bool
-closes t at = ltb (length (drop at (bits t))) 8 && allZero (drop at (bits t))

@@ -7,7 +7,7 @@ use bits::read::field;
 ghost use mathlib.Core.Path.{_≡_};
 ghost use Prim.Native.Nat.{_+_, _^_, _≤_, _<_};
 ghost use lib.ListN.{length};
-ghost use Rattle.ticket.specs.Parts.{entryAt, fill, partAt, closes};
+ghost use Rattle.ticket.specs.Parts.{entryAt, fill, partAt};
 
 // The field at the bit `at`, tested as its row says.
 fn checked(t: &[u8], at: usize, row: Row) -> Entry
@@ -25,20 +25,6 @@ fn checked(t: &[u8], at: usize, row: Row) -> Entry
         return Entry::Refused(row.number);
     }
     Entry::Value(v)
-}
-
-// Fewer than eight bits are left from the bit `at` on, and all are zero.
-pub fn closed(t: &[u8], at: usize) -> bool
-    requires { ⌜ at < 2 ^ 32 ⌝ }
-    ensures { λ r. ⌜ r ≡ closes (now (t .entry)) at ⌝ }
-{
-    if (at + 7) / 8 < t.len() {
-        return false;
-    }
-    match field(t, at, (8 - at % 8) % 8) {
-        Field::Value(v) => v == 0,
-        Field::Ended => true,
-    }
 }
 
 // Entries of one byte, read from the bit `at` on into a table, up to the first that is refused.

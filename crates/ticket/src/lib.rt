@@ -1,8 +1,8 @@
 // A ticket's bytes read, field by field, into a job by value.
 mod fields;
 
+use bits::read::closed;
 use fields::bytes_part;
-use fields::closed;
 use fields::words_part;
 use job::Job;
 ghost use mathlib.Core.Path.{_≡_};

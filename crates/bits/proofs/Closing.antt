@@ -1,4 +1,4 @@
--- The end of a sheet, seen from a position: by the number of bytes, and by the low bits of the last byte. Assumes nothing.
+-- The end of a string of bytes, seen from a position: by the number of bytes, and by the low bits of the last byte. Assumes nothing.
 use mathlib.Core.Path.{_≡_, sym, ap, _∙_}
 use mathlib.Core.Bool.{Bool, true, false, _&&_}
 use mathlib.Core.List.{List, [], _∷_, append-nil}
@@ -11,11 +11,10 @@ use lib.ListN.{length, drop, getD, length-drop, drop-of-length-le}
 use lib.Pow.{pow-pos, shl-exact}
 use lib.Seq.{drop-cons, drop-drop}
 use borrow.Author.Tests.{lt-ltb, le-ltb, ne-eqb}
 use Rattle.bits.specs.Bits.{digits, bits}
-use Rattle.bits.specs.Reading.{allZero}
+use Rattle.bits.specs.Reading.{allZero, isClosed}
 use Rattle.bits.proofs.Bits.{two, length-bits}
 use Rattle.bits.proofs.Leading.{drop-bytes}
-use Rattle.checking.specs.Checking.{isClosed}
 
 -- the digits of a number after its first r
 drop-digits : (r w v : ℕ) → r ≤ w → drop r (digits w v) ≡ digits (w - r) v

@@ -6,15 +6,15 @@ use lib.Dec.{eqb}
 use lib.ListN.{getD}
 use lib.Pow.{pow-pos}
 use denote.Ref.{now}
-use Rattle.checking.proofs.Closing.{one-shifted, closed-not, closed-last, closed-none}
-use Rattle.checking.proofs.closed.Statement.{statement}
-use Rattle.checking.proofs.closed.Tie as tie
+use Rattle.bits.proofs.Closing.{one-shifted, closed-not, closed-last, closed-none}
+use Rattle.bits.proofs.read.closed.Statement.{statement}
+use Rattle.bits.proofs.read.closed.Tie as tie
 
 add-if1 : tie.Need-add-if1
 add-if1 c = omega arith
 
 returns : tie.Need-returns
-returns c = sym (closed-not (c .before .args .at) (now (c .before .args .sheet)) (c .if1 .taken))
+returns c = sym (closed-not (c .before .args .at) (now (c .before .args .s)) (c .if1 .taken))
 
 shared-slice-read-result : tie.Need-shared-slice-read-result
 shared-slice-read-result c = omega arith
@@ -36,12 +36,12 @@ rem-result c =
 returns-2 : tie.Need-returns-2
 returns-2 c =
     let at = c .before .before .before .args .at in
-    let s = now (c .before .before .before .args .sheet) in
+    let s = now (c .before .before .before .args .s) in
     ap (λ (k : ℕ). eqb (getD s (at / 8) 0 % k) 0) (one-shifted (8 - at % 8) (omega arith))
     ∙ sym (closed-last at s (c .before .before .if1 .left) (c .before .if2 .taken))
 
 returns-3 : tie.Need-returns-3
-returns-3 c = sym (closed-none (c .before .before .args .at) (now (c .before .before .args .sheet)) (c .if2 .left))
+returns-3 c = sym (closed-none (c .before .before .args .at) (now (c .before .before .args .s)) (c .if2 .left))
 
 pub closed-spec : {M : Type 1} → statement M
 closed-spec =

@@ -1,17 +1,16 @@
 -- Demand 1: a refusal has one of document 01's numbers. Assumes nothing.
 use mathlib.Core.Path.{_≡_, refl, sym, ap, _∙_}
-use mathlib.Core.Bool.{Bool, true, false, _&&_}
+use mathlib.Core.Bool.{Bool, true, false}
 use mathlib.Core.List.{List, [], _∷_}
 use Prim.Native.Nat.{ℕ, zero, suc, _+_, _*_, _≤_}
 use native.Mathlib.Omega.{arith}
-use lib.Dec.{ltb, lit≤}
-use lib.ListN.{length}
-use Rattle.bits.specs.Reading.{refused, Read, got, stop, Reader, bind, _>>=_, _>>_, give, field, fieldAfter, refuseIf, closing, allZero, answer, readAll}
+use lib.Dec.{lit≤}
+use Rattle.bits.specs.Reading.{refused, Read, got, stop, Reader, bind, _>>=_, _>>_, give, field, fieldAfter, refuseIf, isClosed, closing, answer, readAll}
 use Rattle.bits.specs.Bits.{bits}
 use Rattle.bits.proofs.Reading.{refused-given}
 use Rattle.model.specs.Job.{Job}
 use Rattle.model.specs.Playing.{State, Schedule, start}
 use Rattle.model.specs.Sheet.{discardReader, fetchReader, actionReader, roundReader, roundsReader, sheetReader, scheduleRead}
 
 -- Where a reader stops, its number is one of the sheet's.
 abbrev Numbered : {A : Type 0} → Reader A → Type 0
@@ -57,7 +56,7 @@ of-refuse m false p q l n e = got-stop e
 
 of-closing : Numbered (closing 16)
 unfolding closing
-of-closing l n e = go (ltb (length l) 8 && allZero l) e
+of-closing l n e = go (isClosed l) e
   where
     go : (b : Bool) → _≡_ {A = Read (Unit {0})} (elim b [ true ↦ got tt [] | false ↦ stop 16 ]) (stop n) → (9 ≤ n) × (n ≤ 16)
     go true p = got-stop p
