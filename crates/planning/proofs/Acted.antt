@@ -18,13 +18,13 @@ use Rattle.lookup.specs.Lookup.{Below}
 use Rattle.playing.specs.Playing.{Holds, acted, fetchInto, replaceIn}
 use Rattle.playing.specs.declared.Buffers.{Buffers}
 use Rattle.playing.proofs.Laws.{holds-fetch, holds-replace}
-use Rattle.planning.specs.Right.{Listed, Pointer, DiskRight, Right}
-use Rattle.planning.specs.Moving.{Forward, Moved}
-use Rattle.planning.specs.Writing.{actionOf}
+use Rattle.choosing.specs.Right.{Listed, Pointer, DiskRight, Right}
+use Rattle.choosing.specs.Moving.{Forward, Moved}
+use Rattle.writing.specs.Writing.{actionOf}
 use Rattle.planning.specs.Acting.{ruleOf, midState, AtDisk, Advanced}
-use Rattle.planning.proofs.DiskTables.{pointed, pointer-into, pointer-over, listed-into, listed-over, places-elsewhere}
-use Rattle.planning.proofs.Pointing.{disk-moved}
-use Rattle.planning.proofs.Packing.{action-idle, action-fetch, action-replace}
+use Rattle.choosing.proofs.DiskTables.{pointed, pointer-into, pointer-over, listed-into, listed-over, places-elsewhere}
+use Rattle.choosing.proofs.Pointing.{disk-moved}
+use Rattle.writing.proofs.Packing.{action-idle, action-fetch, action-replace}
 use Rattle.planning.proofs.Stepping.{below-set, mid-load, mid-few, stepped}
 
 pub lawful-of : (spares : Bool) → Lawful (ruleOf spares)

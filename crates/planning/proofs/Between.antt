@@ -28,13 +28,13 @@ use Rattle.lookup.proofs.Laws.{pass-distance}
 use Rattle.playing.specs.Playing.{Holds, emptyBuffers, consumeOne}
 use Rattle.playing.specs.declared.Buffers.{Buffers}
 use Rattle.playing.proofs.Laws.{holds-start, holds-same, holds-consume}
-use Rattle.planning.specs.Right.{Right}
-use Rattle.planning.specs.Writing.{actionsIn}
-use Rattle.planning.specs.Tallying.{tallied}
+use Rattle.choosing.specs.Right.{Right}
+use Rattle.writing.specs.Writing.{actionsIn}
+use Rattle.writing.specs.Tallying.{tallied}
 use Rattle.planning.specs.Planning.{totalsOf}
 use Rattle.planning.specs.Acting.{jobWith, stateOf, ruleOf, midState, Setting, AtDisk}
 use Rattle.planning.proofs.Acted.{lawful-of}
-use Rattle.planning.proofs.DiskTables.{disk-read}
+use Rattle.choosing.proofs.DiskTables.{disk-read}
 use Rattle.planning.proofs.Driving.{restOf, rest-none, Told, told-start, told-clear, told-long, told-most, told-round, long-actions}
 
 -- a state with other marks and another next read

@@ -32,15 +32,15 @@ use Rattle.lookup.proofs.Laws.{pass-distance}
 use Rattle.playing.specs.Playing.{Holds, consumeOne}
 use Rattle.playing.specs.declared.Buffers.{Buffers}
 use Rattle.playing.proofs.Laws.{holds-same, holds-consume}
-use Rattle.planning.specs.Right.{DiskRight, Right}
-use Rattle.planning.specs.Moving.{Forward}
-use Rattle.planning.specs.Writing.{actionOf, actionsIn}
-use Rattle.planning.specs.Tallying.{tallied}
+use Rattle.choosing.specs.Right.{DiskRight, Right}
+use Rattle.choosing.specs.Moving.{Forward}
+use Rattle.writing.specs.Writing.{actionOf, actionsIn}
+use Rattle.writing.specs.Tallying.{tallied}
 use Rattle.planning.specs.Acting.{jobWith, stateOf, ruleOf, midState, Setting, AtDisk}
 use Rattle.planning.proofs.Acted.{lawful-of}
-use Rattle.planning.proofs.DiskTables.{disk-read}
-use Rattle.planning.proofs.Packing.{round-bits-are}
-use Rattle.planning.proofs.Tallied.{tallied-length, tallied-kept, tallied-at}
+use Rattle.choosing.proofs.DiskTables.{disk-read}
+use Rattle.writing.proofs.Packing.{round-bits-are}
+use Rattle.writing.proofs.Tallied.{tallied-length, tallied-kept, tallied-at}
 
 -- lists made number by number
 each-cong : {A : Type 0} (f g : ℕ → A) (i n : ℕ) → ((e : ℕ) → i ≤ e → e < i + n → f e ≡ g e) → each f i n ≡ each g i n

@@ -19,11 +19,11 @@ use Rattle.model.proofs.Choosing.{View, nothing, into, sooner, waiting, over, R
 use Rattle.lookup.specs.Lookup.{Below}
 use Rattle.playing.specs.Playing.{fetchInto, replaceIn}
 use Rattle.playing.specs.declared.Buffers.{Buffers}
-use Rattle.planning.specs.declared.choosing.Choice.{Choice}
-use Rattle.planning.specs.declared.choosing.Choice.the-variants.{IntoEmpty, OverMinBlock, MinBlockSooner, Waits, NoneMissing}
-use Rattle.planning.specs.Choosing.{chooseFrom, meaning}
+use Rattle.choosing.specs.declared.Choice.{Choice}
+use Rattle.choosing.specs.declared.Choice.the-variants.{IntoEmpty, OverMinBlock, MinBlockSooner, Waits, NoneMissing}
+use Rattle.choosing.specs.Choosing.{chooseFrom, meaning}
 use Rattle.planning.specs.Acting.{jobWith, stateOf, ruleOf, midState, Setting, AtDisk, Advanced}
-use Rattle.planning.proofs.Chosen.{Chooses, choose-is, choose-place, choose-into, u-block}
+use Rattle.choosing.proofs.Chosen.{Chooses, choose-is, choose-place, choose-into, u-block}
 use Rattle.planning.proofs.Stepping.{start-right, start-load, mid-load, mid-few}
 use Rattle.planning.proofs.Acted.{lawful-of, step-idle, step-into, step-over}
 

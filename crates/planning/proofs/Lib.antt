@@ -1,14 +1,7 @@
-pub mod Scanning
-pub mod Chosen
-pub mod DiskTables
-pub mod Pointing
-pub mod Packing
-pub mod Stepping
-pub mod Acted
-pub mod Facing
-pub mod Starting
-pub mod Headed
-pub mod Tallied
-pub mod Driving
-pub mod Between
-pub mod Setting
+mod Stepping
+mod Acted
+mod Facing
+mod Starting
+mod Driving
+mod Between
+mod Setting

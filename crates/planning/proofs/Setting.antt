@@ -19,15 +19,15 @@ use Rattle.model.proofs.Plans.{plan-few}
 use Rattle.model.proofs.Rounds.{ready-start}
 use Rattle.model.proofs.Bytes.{rounds-bits}
 use Rattle.lookup.specs.Lookup.{Below, firsts, agains, refDisks}
-use Rattle.planning.specs.Right.{Right}
+use Rattle.choosing.specs.Right.{Right}
 use Rattle.planning.specs.Acting.{jobWith, ruleOf, Setting}
-use Rattle.planning.specs.Heading.{headed}
+use Rattle.writing.specs.Heading.{headed}
 use Rattle.planning.specs.Planning.{totalsOf}
 use Rattle.planning.specs.declared.Totals.{Totals}
 use Rattle.planning.proofs.Acted.{lawful-of}
 use Rattle.planning.proofs.Starting.{right-start}
-use Rattle.planning.proofs.Pointing.{follows-ahead, forward-made}
-use Rattle.planning.proofs.Headed.{headed-bytes, header-room}
+use Rattle.choosing.proofs.Pointing.{follows-ahead, forward-made}
+use Rattle.writing.proofs.Headed.{headed-bytes, header-room}
 
 -- a sheet's bytes with the round count put in, for a schedule that the header can say
 headed-sheet : (schedule : Schedule) → rounds schedule ≤ 2048

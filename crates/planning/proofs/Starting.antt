@@ -12,7 +12,7 @@ use Rattle.model.specs.Playing.{noneResident, start}
 use Rattle.model.specs.Rules.{distance}
 use Rattle.model.proofs.Buffers.{none-resident, load-none}
 use Rattle.model.proofs.Distances.{distance-from}
-use Rattle.planning.specs.Right.{Listed, Pointer, DiskRight, Right}
+use Rattle.choosing.specs.Right.{Listed, Pointer, DiskRight, Right}
 
 -- no resident is listed
 listed-none : (j : Job) (d : ℕ) (residents : List ℕ) → Listed j noneResident d residents 0

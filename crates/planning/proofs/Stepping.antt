@@ -24,11 +24,11 @@ use Rattle.lookup.specs.Lookup.{Below}
 use Rattle.playing.specs.Playing.{Holds, acted}
 use Rattle.playing.specs.declared.Buffers.{Buffers}
 use Rattle.playing.proofs.Laws.{holds-same}
-use Rattle.planning.specs.Right.{DiskRight, Right}
-use Rattle.planning.specs.Moving.{Moved}
-use Rattle.planning.specs.Writing.{actionOf}
+use Rattle.choosing.specs.Right.{DiskRight, Right}
+use Rattle.choosing.specs.Moving.{Moved}
+use Rattle.writing.specs.Writing.{actionOf}
 use Rattle.planning.specs.Acting.{midState, AtDisk, Advanced}
-use Rattle.planning.proofs.DiskTables.{SameOn, disk-same, disk-elsewhere, load-same}
+use Rattle.choosing.proofs.DiskTables.{SameOn, disk-same, disk-elsewhere, load-same}
 
 -- what `advance` and `lead` do together
 pub advanced : (refs : List ℕ) (resident : List Bool) (again follow later look : List ℕ) (d h p : ℕ) (later′ look′ : List ℕ) → h ≡ getD look d 0

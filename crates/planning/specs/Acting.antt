@@ -11,9 +11,9 @@ use Rattle.model.specs.Plans.{choices}
 use Rattle.lookup.specs.Lookup.{Below}
 use Rattle.playing.specs.Playing.{Holds}
 use Rattle.playing.specs.declared.Buffers.{Buffers}
-use Rattle.planning.specs.Right.{Right}
-use Rattle.planning.specs.Moving.{Ahead, Forward, Moved}
-use Rattle.planning.specs.Writing.{actionOf}
+use Rattle.choosing.specs.Right.{Right}
+use Rattle.choosing.specs.Moving.{Ahead, Forward, Moved}
+use Rattle.writing.specs.Writing.{actionOf}
 
 -- the job and the state that a function's arguments say
 abbrev pub jobWith : ℕ → List ℕ → ℕ → List ℕ → List ℕ → Job

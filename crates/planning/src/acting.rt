@@ -1,5 +1,5 @@
 // One round's actions, disk by disk.
-use crate::choosing::Choice;
+use choosing::Choice;
 use lookup::Agains;
 use lookup::Firsts;
 use lookup::Heads;
@@ -9,7 +9,7 @@ ghost use Prim.Native.Nat.{_+_, _*_, _≤_, _<_};
 ghost use lib.ListN.{length, getD, set};
 ghost use Rattle.lookup.specs.Lookup.{Below};
 ghost use Rattle.playing.specs.Playing.{fetchInto, replaceIn};
-ghost use Rattle.planning.specs.Moving.{Ahead};
+ghost use Rattle.choosing.specs.Moving.{Ahead};
 ghost use Rattle.model.specs.Valid.{Ready};
 ghost use Rattle.planning.specs.Acting.{Advanced, jobWith, stateOf, ruleOf, Setting, AtDisk};
 
@@ -34,7 +34,7 @@ fn enter(
     let count = buffers.held[d] as usize;
     residents[d * 64 + count] = u as u16;
     let b = buffers.fetch(u, d);
-    let p = crate::moving::advance(
+    let p = choosing::moving::advance(
         refs,
         &b.resident,
         again,
@@ -69,7 +69,7 @@ fn swap_in(
     let v = residents[place] as usize;
     residents[place] = u as u16;
     let b = buffers.replace(v, u, d);
-    let p = crate::moving::advance(
+    let p = choosing::moving::advance(
         refs,
         &b.resident,
         again,
@@ -109,7 +109,7 @@ pub fn act_all(
     let mut d = 0;
     while d < disks {
         let count = b.held[d] as usize;
-        let c = crate::choosing::choose(
+        let c = choosing::choose(
             refs,
             lookup::head_of(look, d),
             residents,

@@ -1,10 +1,5 @@
 // A plan of a job by either rule: its rounds, its fetches and its sheet.
-pub mod acting;
-pub mod choosing;
-pub mod heading;
-pub mod moving;
-pub mod tallying;
-pub mod writing;
+mod acting;
 
 use job::Job;
 use lookup::Agains;
@@ -19,7 +14,7 @@ ghost use Rattle.job.specs.Meaning.{Fits, jobOf};
 ghost use Rattle.model.specs.Playing.{start};
 ghost use Rattle.model.specs.Plans.{scheduleOf};
 ghost use Rattle.model.specs.Sheet.{roundsBits, sheetBits};
-ghost use Rattle.planning.specs.Right.{Right};
+ghost use Rattle.choosing.specs.Right.{Right};
 ghost use Rattle.planning.specs.Acting.{jobWith, ruleOf, Setting};
 ghost use Rattle.planning.specs.Planning.{totalsOf};
 
@@ -78,7 +73,7 @@ fn play_rounds(
             &mut discarded,
         );
         at = writing::put_round(sheet, at, disks, &fetched, &discarded);
-        tallying::tally(&mut fetches, disks, &fetched);
+        writing::tally(&mut fetches, disks, &fetched);
         rounds += 1;
         'reading: while b.next < refs.len() {
             let p = b.next;
@@ -129,6 +124,6 @@ pub fn run(job: Job, sparing: bool, sheet: &mut [u8]) -> Totals
         &mut look,
         sheet,
     );
-    heading::put_header(sheet, totals.rounds);
+    writing::put_header(sheet, totals.rounds);
     totals
 }

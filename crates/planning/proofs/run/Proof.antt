@@ -7,7 +7,7 @@ use Rattle.planning.proofs.run.Reads as reads
 use Rattle.planning.proofs.run.Lts as lts
 use Rattle.lookup.proofs.chain.Reads as chain-reads
 use Rattle.lookup.proofs.index.Reads as index-reads
-use Rattle.planning.proofs.heading.put_header.Reads as put-header-reads
+use Rattle.writing.proofs.put_header.Reads as put-header-reads
 use Rattle.planning.proofs.play_rounds.Reads as play-rounds-reads
 
 array-share-prefix-all : tie.Need-array-share-prefix-all

@@ -4,7 +4,7 @@ use mathlib.Core.Logic.{_⊎_, inl, inr, ⊎-elim}
 use mathlib.Core.List.{List, [], _∷_}
 use types.Run.{OneOf}
 use denote.Enum.Declared.{tagOf, declared}
-use Rattle.planning.proofs.choosing.Choice.{enum}
+use Rattle.choosing.proofs.Choice.{enum}
 use Prim.Native.Nat.{ℕ, _+_, _-_, _*_, _≤_, _<_}
 use native.Mathlib.Omega.{arith}
 use lib.Dec.{lit<}
@@ -16,9 +16,9 @@ use Rattle.model.specs.Playing.{State}
 use Rattle.model.specs.Rules.{Rule}
 use Rattle.model.specs.Valid.{Ready}
 use Rattle.playing.specs.declared.Buffers.{Buffers}
-use Rattle.planning.specs.declared.choosing.Choice.{Choice}
-use Rattle.planning.specs.declared.choosing.Choice.the-variants.{IntoEmpty, OverMinBlock, MinBlockSooner, Waits, NoneMissing}
-use Rattle.planning.specs.Choosing.{chooseFrom}
+use Rattle.choosing.specs.declared.Choice.{Choice}
+use Rattle.choosing.specs.declared.Choice.the-variants.{IntoEmpty, OverMinBlock, MinBlockSooner, Waits, NoneMissing}
+use Rattle.choosing.specs.Choosing.{chooseFrom}
 use Rattle.planning.specs.Acting.{jobWith, stateOf, ruleOf, Setting, AtDisk}
 use Rattle.planning.proofs.Facing.{some-slot, slot-few, held-few, next-small, look-within, sooner-step, waits-step, none-step, into-small, into-room, into-step, over-small, over-place, over-held, over-step}
 use Rattle.planning.proofs.acting.act_all.Statement.{statement}

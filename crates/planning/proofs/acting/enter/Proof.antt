@@ -9,50 +9,39 @@ use Rattle.planning.proofs.acting.enter.Reads as reads
 use Rattle.planning.proofs.acting.enter.Lts as lts
 use Rattle.lookup.proofs.head_of.Reads as head-of-reads
 use Rattle.lookup.proofs.lead.Reads as lead-reads
-use Rattle.planning.proofs.moving.advance.Reads as advance-reads
+use Rattle.choosing.proofs.moving.advance.Reads as advance-reads
 use Rattle.playing.proofs.Buffers.fetch.Reads as fetch-reads
 
--- src/acting.rt:33:17
 element-copy-out-count : tie.Need-element-copy-out-count
 element-copy-out-count c = search needs
 
--- src/acting.rt:33:17
 cast-count : tie.Need-cast-count
 cast-count c = search needs
 
--- src/acting.rt:34:33
 cast-residents : tie.Need-cast-residents
 cast-residents c = search needs
 
--- src/acting.rt:34:15
 mul-residents : tie.Need-mul-residents
 mul-residents c = search needs
 
--- src/acting.rt:34:15
 add-residents : tie.Need-add-residents
 add-residents c = search needs
 
--- src/acting.rt:34:5
 mul-residents-2 : tie.Need-mul-residents-2
 mul-residents-2 c = search needs
 
--- src/acting.rt:34:5
 element-write-residents : tie.Need-element-write-residents
 element-write-residents c = search needs
 
--- src/acting.rt:35:13
 fetch-requires : tie.Need-fetch-requires
 fetch-requires c κs = search needs
 
--- src/acting.rt:36:77
 head-of-requires : tie.Need-head-of-requires
 head-of-requires c κs = search needs
 
--- src/acting.rt:36:9
 advance-requires : tie.Need-advance-requires
 advance-requires c κs = search needs
 
--- src/acting.rt:37:5
 lead-requires : tie.Need-lead-requires
 lead-requires c κs =
     let m = c .before .advance .ensures .0 in
@@ -61,7 +50,6 @@ lead-requires c κs =
     let few = c .before .before .before .before .before .before .before .before .before .before .pre .1 .0 in
     (omega arith, omega (arith, l, few))
 
--- src/acting.rt:16:1
 returns : tie.Need-returns
 returns c =
     let a = c .before .before .advance .ensures in

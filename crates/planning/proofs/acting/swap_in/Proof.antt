@@ -9,46 +9,36 @@ use Rattle.planning.proofs.acting.swap_in.Reads as reads
 use Rattle.planning.proofs.acting.swap_in.Lts as lts
 use Rattle.lookup.proofs.head_of.Reads as head-of-reads
 use Rattle.lookup.proofs.lead.Reads as lead-reads
-use Rattle.planning.proofs.moving.advance.Reads as advance-reads
+use Rattle.choosing.proofs.moving.advance.Reads as advance-reads
 use Rattle.playing.proofs.Buffers.replace.Reads as replace-reads
 
--- src/acting.rt:61:13
 mul-v : tie.Need-mul-v
 mul-v c = search needs
 
--- src/acting.rt:61:13
 element-copy-out-v : tie.Need-element-copy-out-v
 element-copy-out-v c = search needs
 
--- src/acting.rt:61:13
 cast-v : tie.Need-cast-v
 cast-v c = search needs
 
--- src/acting.rt:62:24
 cast-residents : tie.Need-cast-residents
 cast-residents c = search needs
 
--- src/acting.rt:62:5
 mul-residents : tie.Need-mul-residents
 mul-residents c = search needs
 
--- src/acting.rt:62:5
 element-write-residents : tie.Need-element-write-residents
 element-write-residents c = search needs
 
--- src/acting.rt:63:13
 replace-requires : tie.Need-replace-requires
 replace-requires c κs = search needs
 
--- src/acting.rt:64:77
 head-of-requires : tie.Need-head-of-requires
 head-of-requires c κs = search needs
 
--- src/acting.rt:64:9
 advance-requires : tie.Need-advance-requires
 advance-requires c κs = search needs
 
--- src/acting.rt:65:5
 lead-requires : tie.Need-lead-requires
 lead-requires c κs =
     let m = c .before .advance .ensures .0 in
@@ -57,7 +47,6 @@ lead-requires c κs =
     let few = c .before .before .before .before .before .before .before .before .before .before .pre .1 .1 .0 in
     (omega arith, omega (arith, l, few))
 
--- src/acting.rt:42:1
 returns : tie.Need-returns
 returns c =
     let a = c .before .before .advance .ensures in

@@ -1,0 +1,4 @@
+mod Scanning
+pub mod Chosen
+pub mod DiskTables
+pub mod Pointing

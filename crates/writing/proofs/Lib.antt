@@ -1,0 +1,3 @@
+pub mod Packing
+pub mod Headed
+pub mod Tallied
