@@ -7,7 +7,7 @@ use Prim.Native.Nat.{ℕ, suc, _≤_, _<_}
 use native.Mathlib.Omega.{arith}
 use lib.Dec.{eqb, leb}
 use lib.ListN.{length, getD, set, length-set}
-use lib.Seq.{getD-set-other, ext-getD}
+use lib.Seq.{getD-set-same, getD-set-other, ext-getD}
 use borrow.Author.Tests.{eqb-true, eqb-false, leb-true, leb-false}
 use Rattle.bits.proofs.Logic.{by-test, clash}
 use Rattle.lookup.specs.Lookup.{agains, refDisks, chainFrom}
@@ -17,7 +17,7 @@ use Rattle.model.specs.Playing.{isResident, load}
 use Rattle.model.specs.Rules.{distance}
 use Rattle.model.proofs.Distances.{distance-hit}
 use Rattle.choosing.specs.Right.{Listed, Pointer, DiskRight}
-use Rattle.choosing.specs.Moving.{Ahead, Forward, Moved}
+use Rattle.choosing.specs.Moving.{Ahead, Forward, Moved, Advanced}
 
 -- one reference of the disk is passed
 module _ {j : Job} {resident : List Bool} {from d p : ℕ} {again follow later : List ℕ} (sound : Sound j) (tables : Forward j again follow)
@@ -116,3 +116,15 @@ forward-made j disks table tables same l r = record {
   ofBlock = λ i p. agains-at (j .refs) table i p (omega arith);
   ofDisk = λ i p. rw (refDisks-same j disks same) (chain-next (j .disks) (j .refs) tables i p (omega arith));
 }
+
+-- what `advance` and `lead` do together
+pub advanced : (refs : List ℕ) (resident : List Bool) (again follow later look : List ℕ) (d h p : ℕ) (later′ look′ : List ℕ) → h ≡ getD look d 0
+    → Moved refs resident again follow later h p later′ → (p < length refs → getD resident (getD refs p 0) false ≡ false) → look′ ≡ set look d p → d < length look
+    → Advanced refs resident again follow later look d later′ look′
+advanced refs resident again follow later look d h p later′ look′ e m s q l =
+    let at : getD look′ d 0 ≡ p = ap (λ (x : List ℕ). getD x d 0) q ∙ getD-set-same look d p 0 l in
+    record {
+      moved = subst (λ (x : ℕ). Moved refs resident again follow later x (getD look′ d 0) later′) e (subst (λ (x : ℕ). Moved refs resident again follow later h x later′) (sym at) m);
+      stops = subst (λ (x : ℕ). x < length refs → getD resident (getD refs x 0) false ≡ false) (sym at) s;
+      kept = q ∙ ap (set look d) (sym at);
+    }

@@ -1,6 +1,6 @@
 -- What a rule chooses for one disk, from tables: `next` has the distance of each block, `later` its distance from U's reference on, and the
 -- residents of the disk stand in a list from `base` on. `proofs/Chosen.antt` leads from here to the model's rules. Assumes nothing.
-use mathlib.Core.Bool.{Bool, true, false, cond, _&&_, _||_}
+use mathlib.Core.Bool.{Bool, false, cond, _&&_, _||_}
 use mathlib.Core.List.{List}
 use Prim.Native.Nat.{ℕ, zero, suc, _+_, _-_, _*_}
 use lib.Dec.{ltb, leb}

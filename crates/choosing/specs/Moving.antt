@@ -1,10 +1,10 @@
 -- The pointer of a disk moves on to the first reference whose block is missing. Assumes nothing.
 use mathlib.Core.Path.{_≡_}
 use mathlib.Core.Logic.{_≢_}
-use mathlib.Core.Bool.{Bool}
+use mathlib.Core.Bool.{Bool, false}
 use mathlib.Core.List.{List}
 use Prim.Native.Nat.{ℕ, suc, _≤_, _<_}
-use lib.ListN.{length, getD}
+use lib.ListN.{length, getD, set}
 use Rattle.lookup.specs.Lookup.{chainFrom}
 use Rattle.model.specs.Job.{Job, Sound, blockCount, refCount, diskOf, refAt}
 use Rattle.model.specs.Rules.{distance}
@@ -27,3 +27,9 @@ pub record Moved (refs : List ℕ) (resident : List Bool) (again follow before :
   pub right : (j : Job) (from d : ℕ) → j .refs ≡ refs → Sound j → Forward j again follow → blockCount j ≤ length before
       → Pointer j resident from d look before
       → Pointer j resident from d p after × ((b : ℕ) → (b < blockCount j → diskOf j b ≢ d) → getD after b 0 ≡ getD before b 0)
+
+-- A disk's pointer moves on, with the distances from it.
+pub record Advanced (refs : List ℕ) (resident : List Bool) (again follow later look : List ℕ) (d : ℕ) (later′ look′ : List ℕ) : Type 0 where
+  pub moved : Moved refs resident again follow later (getD look d 0) (getD look′ d 0) later′
+  pub stops : getD look′ d 0 < length refs → getD resident (getD refs (getD look′ d 0) 0) false ≡ false
+  pub kept : look′ ≡ set look d (getD look′ d 0)

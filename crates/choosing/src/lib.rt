@@ -4,7 +4,7 @@ pub mod moving;
 use lookup::Firsts;
 ghost use mathlib.Core.Path.{_≡_};
 ghost use Prim.Native.Nat.{_+_, _-_, _≤_, _<_};
-ghost use lib.ListN.{length, getD};
+ghost use lib.ListN.{getD};
 ghost use Rattle.lookup.specs.Lookup.{Below};
 ghost use Rattle.choosing.specs.Choosing.{keyAt, lastPlace, someBeyond, chooseFrom};
 

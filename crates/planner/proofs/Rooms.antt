@@ -24,7 +24,7 @@ use Rattle.model.proofs.Bytes
 use Rattle.ticket.specs.Meaning.{ticketRead}
 use Rattle.ticket.specs.declared.Ticket.{Ticket}
 use Rattle.ticket.proofs.Laws.{read-given, read-refused}
-use Rattle.planning.specs.Acting.{ruleOf}
+use Rattle.acting.specs.Acting.{ruleOf}
 use Rattle.planning.specs.Planning.{totalsOf}
 use Rattle.planning.specs.declared.Totals.{Totals}
 use mir.Val.{Fits as Machine}

@@ -1,21 +1,21 @@
 -- The loops of the planner: before a round, and while the suite reads on after it. Assumes nothing.
 use mathlib.Core.Path.{_≡_, refl, sym, ap, _∙_, subst}
 use mathlib.Core.Bool.{Bool, true, false}
-use mathlib.Core.List.{List, [], _∷_, _++_, append-nil}
-use Prim.Native.Nat.{ℕ, zero, suc, _+_, _-_, _*_, _≤_, _<_}
+use mathlib.Core.List.{List, [], _++_, append-nil}
+use Prim.Native.Nat.{ℕ, suc, _+_, _*_, _≤_, _<_}
 use native.Mathlib.Numerals.{add-one}
 use native.Mathlib.Omega.{arith}
-use lib.Dec.{ltb, lit<, eqb}
-use lib.ListN.{length, getD, set, take, replicate, length-append, length-set, length-take, length-replicate, getD-replicate, List·getD-eq-default}
+use lib.Dec.{ltb, eqb}
+use lib.ListN.{length, getD, set, replicate, length-append, length-set, length-take, length-replicate, getD-replicate, List·getD-eq-default}
 use lib.Seq.{take-all, ext-getD}
 use borrow.Author.Tests.{ltb-true, ltb-false, eqb-true, eqb-false}
 use Rattle.bits.specs.Bits.{digits, bytes}
 use Rattle.bits.specs.Fields.{putBits, clearFrom}
 use Rattle.bits.proofs.Bits.{length-digits}
-use Rattle.bits.proofs.Logic.{by-test, clash}
-use Rattle.model.specs.Job.{Job, Sound, diskCount, blockCount, refCount, slotsOf, diskOf, refAt}
-use Rattle.model.specs.Playing.{Action, idle, Schedule, State, start, noneResident, isResident, load, actAll, playRound, total, fetched as fetchedOf, fetches as fetchesOf}
-use Rattle.model.specs.Rules.{Rule, action, distance}
+use Rattle.bits.proofs.Logic.{by-test}
+use Rattle.model.specs.Job.{Job, diskCount, refCount, refAt}
+use Rattle.model.specs.Playing.{Schedule, State, start, noneResident, isResident, actAll, playRound, total, fetched as fetchedOf, fetches as fetchesOf}
+use Rattle.model.specs.Rules.{Rule, distance}
 use Rattle.model.specs.Plans.{each, scheduleOf}
 use Rattle.model.specs.Sheet.{roundBits, roundsBits, sheetBits}
 use Rattle.model.specs.Valid.{Ready}
@@ -32,8 +32,8 @@ use Rattle.choosing.specs.Right.{Right}
 use Rattle.writing.specs.Writing.{actionsIn}
 use Rattle.writing.specs.Tallying.{tallied}
 use Rattle.planning.specs.Planning.{totalsOf}
-use Rattle.planning.specs.Acting.{jobWith, stateOf, ruleOf, midState, Setting, AtDisk}
-use Rattle.planning.proofs.Acted.{lawful-of}
+use Rattle.acting.specs.Acting.{jobWith, stateOf, ruleOf, midState, Setting, AtDisk}
+use Rattle.acting.proofs.Acted.{lawful-of}
 use Rattle.choosing.proofs.DiskTables.{disk-read}
 use Rattle.planning.proofs.Driving.{restOf, rest-none, Told, told-start, told-clear, told-long, told-most, told-round, long-actions}
 

@@ -1,44 +1,27 @@
 -- A plan, round by round: what has been played, written and counted, and what the rest of the plan adds to it, make the whole plan. Assumes nothing.
-use mathlib.Core.Path.{_≡_, refl, sym, ap, ap₂, _∙_, subst}
-use mathlib.Core.Bool.{Bool, true, false}
-use mathlib.Core.List.{List, [], _∷_, _++_, map, append-assoc, append-nil}
+use mathlib.Core.Path.{_≡_, refl, sym, ap, ap₂, _∙_}
+use mathlib.Core.List.{List, [], _∷_, _++_, map, append-assoc}
 use Prim.Native.Nat.{ℕ, zero, suc, _+_, _-_, _*_, _≤_, _<_}
-use native.Mathlib.Nat.{add-assoc, le-antisymm}
-use native.Mathlib.Numerals.{add-one}
 use native.Mathlib.Omega.{arith}
 use lib.Dec.{ltb, lit<}
-use lib.ListN.{length, getD, set, take, replicate, length-append, length-map, length-take}
-use lib.Seq.{take-all, ext-getD}
+use lib.ListN.{length, getD, replicate, length-append, length-map}
 use borrow.Author.Tests.{lt-ltb, le-ltb, ltb-true, ltb-false}
 use Rattle.bits.specs.Bits.{leading, bytes}
 use Rattle.bits.specs.Fields.{putBits, clearFrom}
 use Rattle.bits.proofs.Logic.{by-test, Each}
 use Rattle.bits.proofs.Bits.{Bits, append-bits, length-bytes}
 use Rattle.bits.proofs.Fields.{put-packed, clear-packed, bytes-none}
-use Rattle.model.specs.Job.{Job, Sound, diskCount, blockCount, refCount, slotsOf, diskOf, refAt}
-use Rattle.model.specs.Playing.{Action, idle, fetch, replace, Schedule, State, start, isResident, load, act, actAll, consumed, playRound, fetched, total, fetches, rounds}
-use Rattle.model.specs.Rules.{Rule, action, distance}
+use Rattle.model.specs.Job.{Job, Sound, diskCount, refCount}
+use Rattle.model.specs.Playing.{Action, idle, fetch, replace, Schedule, State, start, playRound, fetched, total, fetches, rounds}
+use Rattle.model.specs.Rules.{Rule, action}
 use Rattle.model.specs.Plans.{each, choices, planFrom, planOf, scheduleOf}
-use Rattle.model.specs.Sheet.{roundBits, roundsBits, sheetBits}
-use Rattle.model.specs.Valid.{Ready, Round}
+use Rattle.model.specs.Sheet.{roundBits, roundsBits}
+use Rattle.model.specs.Valid.{Ready}
 use Rattle.model.proofs.Choosing.{Lawful}
-use Rattle.model.proofs.Distances.{distance-here, distance-on}
 use Rattle.model.proofs.Longest.{length-round}
-use Rattle.model.proofs.Playing.{readOn, readOn-is}
 use Rattle.model.proofs.Plans.{actionsOf, actions-at, length-each, plan-round, plan-consumes}
-use Rattle.model.proofs.Rounds.{ready-after}
-use Rattle.lookup.specs.Lookup.{Below}
-use Rattle.lookup.proofs.Laws.{pass-distance}
-use Rattle.playing.specs.Playing.{Holds, consumeOne}
-use Rattle.playing.specs.declared.Buffers.{Buffers}
-use Rattle.playing.proofs.Laws.{holds-same, holds-consume}
-use Rattle.choosing.specs.Right.{DiskRight, Right}
-use Rattle.choosing.specs.Moving.{Forward}
 use Rattle.writing.specs.Writing.{actionOf, actionsIn}
 use Rattle.writing.specs.Tallying.{tallied}
-use Rattle.planning.specs.Acting.{jobWith, stateOf, ruleOf, midState, Setting, AtDisk}
-use Rattle.planning.proofs.Acted.{lawful-of}
-use Rattle.choosing.proofs.DiskTables.{disk-read}
 use Rattle.writing.proofs.Packing.{round-bits-are}
 use Rattle.writing.proofs.Tallied.{tallied-length, tallied-kept, tallied-at}
 

@@ -1,6 +1,3 @@
-mod Stepping
-mod Acted
-mod Facing
 mod Starting
 mod Driving
 mod Between

@@ -20,11 +20,11 @@ use Rattle.model.proofs.Rounds.{ready-start}
 use Rattle.model.proofs.Bytes.{rounds-bits}
 use Rattle.lookup.specs.Lookup.{Below, firsts, agains, refDisks}
 use Rattle.choosing.specs.Right.{Right}
-use Rattle.planning.specs.Acting.{jobWith, ruleOf, Setting}
+use Rattle.acting.specs.Acting.{jobWith, ruleOf, Setting}
 use Rattle.writing.specs.Heading.{headed}
 use Rattle.planning.specs.Planning.{totalsOf}
 use Rattle.planning.specs.declared.Totals.{Totals}
-use Rattle.planning.proofs.Acted.{lawful-of}
+use Rattle.acting.proofs.Acted.{lawful-of}
 use Rattle.planning.proofs.Starting.{right-start}
 use Rattle.choosing.proofs.Pointing.{follows-ahead, forward-made}
 use Rattle.writing.proofs.Headed.{headed-bytes, header-room}

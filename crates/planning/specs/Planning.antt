@@ -1,6 +1,4 @@
 -- What running a rule gives: the plan's rounds and fetches, and how many bits its sheet has. Assumes nothing.
-use mathlib.Core.List.{List}
-use Prim.Native.Nat.{ℕ}
 use lib.ListN.{length}
 use Rattle.model.specs.Playing.{Schedule, rounds, fetches}
 use Rattle.model.specs.Plans.{each}

@@ -1,6 +1,4 @@
 // A plan of a job by either rule: its rounds, its fetches and its sheet.
-mod acting;
-
 use job::Job;
 use lookup::Agains;
 use lookup::Firsts;
@@ -15,7 +13,7 @@ ghost use Rattle.model.specs.Playing.{start};
 ghost use Rattle.model.specs.Plans.{scheduleOf};
 ghost use Rattle.model.specs.Sheet.{roundsBits, sheetBits};
 ghost use Rattle.choosing.specs.Right.{Right};
-ghost use Rattle.planning.specs.Acting.{jobWith, ruleOf, Setting};
+ghost use Rattle.acting.specs.Acting.{jobWith, ruleOf, Setting};
 ghost use Rattle.planning.specs.Planning.{totalsOf};
 
 // The rounds and fetches of a plan, and how many bits its sheet has.

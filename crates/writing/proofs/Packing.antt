@@ -5,14 +5,14 @@ use Prim.Native.Nat.{ℕ, zero, suc, _+_, _-_, _*_, _/_, _%_, _^_, _≤_, _<_}
 use native.Mathlib.Nat.{zero-add, suc-add, zero-mul, add-comm}
 use native.Mathlib.Numerals.{add-one}
 use native.Mathlib.Omega.{arith}
-use lib.Dec.{lit<, eqb}
+use lib.Dec.{lit<}
 use borrow.Author.Tests.{eq-eqb, ne-eqb}
 use lib.ListN.{length, take, getD, set, length-append}
-use lib.Pow.{high, low, shr-shr, pow-pos}
+use lib.Pow.{high, shr-shr}
 use lib.Seq.{set-getD}
 use Rattle.bits.specs.Bits.{digits, bits, bytes}
 use Rattle.bits.specs.Fields.{putBit, putBits, clearFrom}
-use Rattle.bits.proofs.Bits.{Bits, digits-low, length-digits, length-bytes, bits-are, append-bits, take-bits, length-bits}
+use Rattle.bits.proofs.Bits.{Bits, digits-low, length-bytes, bits-are, append-bits, take-bits, length-bits}
 use Rattle.bits.proofs.Fields.{put-packed, clear-packed}
 use Rattle.model.specs.Playing.{Action, idle, fetch, replace}
 use Rattle.model.specs.Plans.{each}

@@ -1,5 +1,5 @@
 -- A round's actions as two numbers a disk, the fetched and the discarded block; 512 is no block. Assumes nothing.
-use mathlib.Core.Bool.{Bool, cond}
+use mathlib.Core.Bool.{cond}
 use mathlib.Core.List.{List}
 use Prim.Native.Nat.{ℕ}
 use lib.Dec.{eqb}

@@ -1,12 +1,10 @@
 -- `last`: after k + 1 residents the best place is `lastPlace` of them, and `most` its key. Assumes nothing.
 use mathlib.Core.Path.{_≡_, sym, ap, _∙_}
 use mathlib.Core.Logic.{⊎-elim}
-use Prim.Native.Nat.{suc, _+_, _-_, _≤_}
+use Prim.Native.Nat.{_+_, _-_, _≤_}
 use native.Mathlib.Omega.{arith}
-use lib.Dec.{lit<, leb}
-use lib.ListN.{getD}
+use lib.Dec.{lit<}
 use borrow.Author.Needs.{needs}
-use borrow.Author.Tests.{le-leb, lt-leb}
 use Rattle.lookup.proofs.Laws.{below-any}
 use Rattle.choosing.specs.Choosing.{keyAt, lastPlace}
 use Rattle.choosing.proofs.Scanning.{last-start, last-here, last-kept}

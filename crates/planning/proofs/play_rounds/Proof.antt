@@ -1,17 +1,16 @@
 -- `play_rounds`: before each round the tables and what is told of the rounds before are right (`Between`), and so they are while the suite reads on
 -- (`Reads`). The measures are the rounds that may be left, and the references left. Assumes nothing.
-use mathlib.Core.Path.{_≡_, refl, sym, ap, _∙_, subst}
-use mathlib.Core.Logic.{⊎-elim}
-use Prim.Native.Nat.{ℕ, suc, _+_, _-_, _*_, _≤_, _<_}
+use mathlib.Core.Path.{_≡_, sym, ap, _∙_}
+use Prim.Native.Nat.{ℕ, suc, _-_}
 use native.Mathlib.Numerals.{add-one}
 use native.Mathlib.Omega.{arith}
 use lib.Dec.{lit<}
-use lib.ListN.{length, getD, length-replicate}
+use lib.ListN.{length, length-replicate}
 use borrow.Author.Tests.{not-true, not-false}
 use Rattle.lookup.proofs.Laws.{below-any}
 use Rattle.model.specs.Playing.{State}
 use Rattle.playing.specs.Playing.{consumeOne}
-use Rattle.planning.specs.Acting.{jobWith, Setting}
+use Rattle.acting.specs.Acting.{jobWith, Setting}
 use Rattle.planning.proofs.Between.{Between, Reads, between-start, between-room, between-clear, between-long, between-few, round-played, reads-more, reads-end, plan-bits, plan-totals}
 use Rattle.planning.proofs.play_rounds.Statement.{statement}
 use Rattle.planning.proofs.play_rounds.Tie as tie

@@ -4,12 +4,10 @@ use Prim.Native.Nat.{ℕ, _+_, _*_, _≤_, _<_}
 use native.Mathlib.Omega.{arith}
 use lib.ListN.{length}
 use borrow.Author.Needs.{needs}
-use Rattle.bits.specs.Bits.{digits}
 use Rattle.bits.specs.Fields.{putBits}
 use Rattle.bits.proofs.Bits.{length-digits}
 use Rattle.model.specs.Playing.{Action, idle, fetch, replace}
 use Rattle.model.specs.Sheet.{actionBits}
-use Rattle.writing.specs.Writing.{actionOf}
 use Rattle.writing.proofs.Packing.{fetch-field, replace-field, idle-put, action-idle, action-fetch, action-replace}
 use Rattle.writing.proofs.put_action.Statement.{statement}
 use Rattle.writing.proofs.put_action.Tie as tie

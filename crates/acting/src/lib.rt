@@ -9,9 +9,9 @@ ghost use Prim.Native.Nat.{_+_, _*_, _≤_, _<_};
 ghost use lib.ListN.{length, getD, set};
 ghost use Rattle.lookup.specs.Lookup.{Below};
 ghost use Rattle.playing.specs.Playing.{fetchInto, replaceIn};
-ghost use Rattle.choosing.specs.Moving.{Ahead};
+ghost use Rattle.choosing.specs.Moving.{Ahead, Advanced};
 ghost use Rattle.model.specs.Valid.{Ready};
-ghost use Rattle.planning.specs.Acting.{Advanced, jobWith, stateOf, ruleOf, Setting, AtDisk};
+ghost use Rattle.acting.specs.Acting.{jobWith, stateOf, ruleOf, Setting, AtDisk};
 
 // Block u enters an empty slot of disk d, and the disk's pointer moves on.
 fn enter(
@@ -34,15 +34,7 @@ fn enter(
     let count = buffers.held[d] as usize;
     residents[d * 64 + count] = u as u16;
     let b = buffers.fetch(u, d);
-    let p = choosing::moving::advance(
-        refs,
-        &b.resident,
-        again,
-        follow,
-        later,
-        lookup::head_of(look, d),
-    );
-    lookup::lead(look, d, p);
+    choosing::moving::move_on(d, refs, &b.resident, again, follow, later, look);
     b
 }
 
@@ -69,19 +61,12 @@ fn swap_in(
     let v = residents[place] as usize;
     residents[place] = u as u16;
     let b = buffers.replace(v, u, d);
-    let p = choosing::moving::advance(
-        refs,
-        &b.resident,
-        again,
-        follow,
-        later,
-        lookup::head_of(look, d),
-    );
-    lookup::lead(look, d, p);
+    choosing::moving::move_on(d, refs, &b.resident, again, follow, later, look);
     b
 }
 
-// All disks act, in order: what each fetched and discarded, 512 for no block. (The number of blocks and their disks are named for the contract.)
+// All disks act, in order: what each fetched and discarded, 512 for no block. (The round, the number of blocks and their disks are named for the
+// contract only.)
 pub fn act_all(
     buffers: Buffers,
     round: usize,

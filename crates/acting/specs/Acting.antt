@@ -1,10 +1,10 @@
 -- One round's actions: what the planner's tables say after the disks below d have acted. Assumes nothing.
 use mathlib.Core.Path.{_≡_}
-use mathlib.Core.Bool.{Bool, false, cond}
+use mathlib.Core.Bool.{Bool, cond}
 use mathlib.Core.List.{List, map}
-use Prim.Native.Nat.{ℕ, _+_, _*_, _≤_, _<_}
-use lib.ListN.{length, getD, set, take}
-use Rattle.model.specs.Job.{Job, Sound, refCount}
+use Prim.Native.Nat.{ℕ, _≤_, _<_}
+use lib.ListN.{length, getD, take}
+use Rattle.model.specs.Job.{Job, Sound}
 use Rattle.model.specs.Playing.{State, actAll}
 use Rattle.model.specs.Rules.{Rule, action, short, sparing}
 use Rattle.model.specs.Plans.{choices}
@@ -12,7 +12,7 @@ use Rattle.lookup.specs.Lookup.{Below}
 use Rattle.playing.specs.Playing.{Holds}
 use Rattle.playing.specs.declared.Buffers.{Buffers}
 use Rattle.choosing.specs.Right.{Right}
-use Rattle.choosing.specs.Moving.{Ahead, Forward, Moved}
+use Rattle.choosing.specs.Moving.{Ahead, Forward}
 use Rattle.writing.specs.Writing.{actionOf}
 
 -- the job and the state that a function's arguments say
@@ -51,9 +51,3 @@ pub record AtDisk (rule : Rule) (j : Job) (s : State) (d : ℕ) (b : Buffers) (r
   pub longDiscarded : length discarded ≡ 8
   pub smallFetched : Below 513 fetched
   pub smallDiscarded : Below 513 discarded
-
--- A disk's pointer moves on, with the distances from it.
-pub record Advanced (refs : List ℕ) (resident : List Bool) (again follow later look : List ℕ) (d : ℕ) (later′ look′ : List ℕ) : Type 0 where
-  pub moved : Moved refs resident again follow later (getD look d 0) (getD look′ d 0) later′
-  pub stops : getD look′ d 0 < length refs → getD resident (getD refs (getD look′ d 0) 0) false ≡ false
-  pub kept : look′ ≡ set look d (getD look′ d 0)

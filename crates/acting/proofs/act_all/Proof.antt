@@ -1,14 +1,14 @@
 -- `act_all`: after d disks the tables and the actions so far are right (`AtDisk`); each arm is one of the steps of `Facing`. Assumes nothing.
-use mathlib.Core.Path.{_≡_, refl, sym, ap, _∙_, subst}
+use mathlib.Core.Path.{_≡_, refl, ap, _∙_, subst}
 use mathlib.Core.Logic.{_⊎_, inl, inr, ⊎-elim}
 use mathlib.Core.List.{List, [], _∷_}
 use types.Run.{OneOf}
 use denote.Enum.Declared.{tagOf, declared}
 use Rattle.choosing.proofs.Choice.{enum}
-use Prim.Native.Nat.{ℕ, _+_, _-_, _*_, _≤_, _<_}
+use Prim.Native.Nat.{ℕ, _-_, _*_, _≤_, _<_}
 use native.Mathlib.Omega.{arith}
 use lib.Dec.{lit<}
-use lib.ListN.{getD, set}
+use lib.ListN.{getD}
 use denote.Ref.{now}
 use Rattle.lookup.proofs.Laws.{below-any}
 use Rattle.model.specs.Job.{Job}
@@ -19,10 +19,10 @@ use Rattle.playing.specs.declared.Buffers.{Buffers}
 use Rattle.choosing.specs.declared.Choice.{Choice}
 use Rattle.choosing.specs.declared.Choice.the-variants.{IntoEmpty, OverMinBlock, MinBlockSooner, Waits, NoneMissing}
 use Rattle.choosing.specs.Choosing.{chooseFrom}
-use Rattle.planning.specs.Acting.{jobWith, stateOf, ruleOf, Setting, AtDisk}
-use Rattle.planning.proofs.Facing.{some-slot, slot-few, held-few, next-small, look-within, sooner-step, waits-step, none-step, into-small, into-room, into-step, over-small, over-place, over-held, over-step}
-use Rattle.planning.proofs.acting.act_all.Statement.{statement}
-use Rattle.planning.proofs.acting.act_all.Tie as tie
+use Rattle.acting.specs.Acting.{jobWith, stateOf, ruleOf, Setting, AtDisk}
+use Rattle.acting.proofs.Facing.{some-slot, slot-few, held-few, next-small, look-within, sooner-step, waits-step, none-step, into-small, into-room, into-step, over-small, over-place, over-held, over-step}
+use Rattle.acting.proofs.act_all.Statement.{statement}
+use Rattle.acting.proofs.act_all.Tie as tie
 
 abbrev Inv-loop : tie.InvT-loop
 Inv-loop round disks slots blocks disk refs sparing again follow next later₀ look₀ residents₀ fetched₀ discarded₀ b₀ d₀ later look residents fetched discarded b d =

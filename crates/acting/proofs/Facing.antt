@@ -1,31 +1,29 @@
 -- One disk's turn, in the terms of the function `act_all`: what its calls ask, and the tables after each of its arms. Assumes nothing.
-use mathlib.Core.Path.{_≡_, refl, sym, ap, _∙_, subst}
-use mathlib.Core.Bool.{Bool, true, false, cond}
+use mathlib.Core.Path.{_≡_, sym, ap, _∙_, subst}
+use mathlib.Core.Bool.{Bool}
 use mathlib.Core.List.{List}
-use Prim.Native.Nat.{ℕ, suc, _+_, _-_, _*_, _≤_, _<_}
+use Prim.Native.Nat.{ℕ, suc, _+_, _*_, _≤_, _<_}
 use native.Mathlib.Numerals.{add-one}
 use native.Mathlib.Omega.{arith}
-use lib.Dec.{ltb}
-use lib.ListN.{length, getD, set, take, length-take, List·getD-eq-default}
+use lib.ListN.{length, getD, set, length-take}
 use lib.Seq.{getD-take}
-use borrow.Author.Tests.{ltb-true, ltb-false}
-use Rattle.bits.proofs.Logic.{by-test}
-use Rattle.model.specs.Job.{Job, Sound, diskCount, blockCount, refCount, slotsOf, diskOf, refAt}
-use Rattle.model.specs.Playing.{Action, idle, fetch, replace, State, load}
-use Rattle.model.specs.Rules.{Choice as Chosen, intoEmpty, overMinBlock, minBlockSooner, waits, noneMissing, action, distance, distanceNow}
+use Rattle.model.specs.Job.{Job, diskCount, refCount, slotsOf, refAt}
+use Rattle.model.specs.Playing.{idle, fetch, replace, State}
+use Rattle.model.specs.Rules.{Choice as Chosen, overMinBlock, action, distance, distanceNow}
 use Rattle.model.specs.Valid.{Ready}
 use Rattle.model.proofs.Distances.{distance-to}
-use Rattle.model.proofs.Choosing.{View, nothing, into, sooner, waiting, over, RuleView}
+use Rattle.model.proofs.Choosing.{nothing, into, sooner, waiting, over, RuleView}
 use Rattle.lookup.specs.Lookup.{Below}
 use Rattle.playing.specs.Playing.{fetchInto, replaceIn}
 use Rattle.playing.specs.declared.Buffers.{Buffers}
 use Rattle.choosing.specs.declared.Choice.{Choice}
 use Rattle.choosing.specs.declared.Choice.the-variants.{IntoEmpty, OverMinBlock, MinBlockSooner, Waits, NoneMissing}
 use Rattle.choosing.specs.Choosing.{chooseFrom, meaning}
-use Rattle.planning.specs.Acting.{jobWith, stateOf, ruleOf, midState, Setting, AtDisk, Advanced}
-use Rattle.choosing.proofs.Chosen.{Chooses, choose-is, choose-place, choose-into, u-block}
-use Rattle.planning.proofs.Stepping.{start-right, start-load, mid-load, mid-few}
-use Rattle.planning.proofs.Acted.{lawful-of, step-idle, step-into, step-over}
+use Rattle.choosing.specs.Moving.{Advanced}
+use Rattle.acting.specs.Acting.{jobWith, stateOf, ruleOf, midState, Setting, AtDisk}
+use Rattle.choosing.proofs.Chosen.{Chooses, choose-is, choose-place, choose-into}
+use Rattle.acting.proofs.Stepping.{start-right, start-load, mid-few}
+use Rattle.acting.proofs.Acted.{lawful-of, step-idle, step-into, step-over}
 
 -- a rule that replaces the min-block finds it no sooner than U
 over-far : (j : Job) (s : State) (d u v : ℕ) (c : Chosen) → RuleView j s d c → c ≡ overMinBlock u v → distanceNow j s u ≤ distanceNow j s v

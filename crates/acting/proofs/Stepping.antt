@@ -1,20 +1,19 @@
 -- One disk's action: the tables after it. Assumes nothing.
 use mathlib.Core.Path.{_≡_, refl, sym, ap, _∙_, subst}
 use mathlib.Core.Logic.{_≢_, ⊎-elim}
-use mathlib.Core.Bool.{Bool, true, false, cond}
-use mathlib.Core.List.{List, [], _∷_, _++_, map}
-use Prim.Native.Nat.{ℕ, zero, suc, _+_, _*_, _≤_, _<_}
+use mathlib.Core.Bool.{Bool}
+use mathlib.Core.List.{List, [], _∷_, _++_}
+use Prim.Native.Nat.{ℕ, suc, _+_, _*_, _≤_, _<_}
 use native.Mathlib.Omega.{arith}
 use lib.Dec.{eqb}
 use lib.ListN.{length, getD, set, take, length-set, length-take, List·getD-eq-default}
 use lib.Seq.{take-suc, getD-set-same, getD-set-other}
 use borrow.Author.Tests.{eqb-true, eqb-false}
 use Rattle.bits.proofs.Logic.{by-test}
-use Rattle.model.specs.Job.{Job, Sound, diskCount, blockCount, refCount, slotsOf, diskOf, refAt}
-use Rattle.model.specs.Playing.{Action, idle, fetch, replace, State, isResident, load, act, actAll, fetched, discarded}
-use Rattle.model.specs.Rules.{Choice, action, Rule, distance}
-use Rattle.model.specs.Plans.{choices}
-use Rattle.model.specs.Valid.{Block, Legal, LegalAll}
+use Rattle.model.specs.Job.{Job, Sound, diskCount, slotsOf, diskOf}
+use Rattle.model.specs.Playing.{Action, idle, State, isResident, load, act, actAll, fetched, discarded}
+use Rattle.model.specs.Rules.{action, Rule}
+use Rattle.model.specs.Valid.{Legal, LegalAll}
 use Rattle.model.proofs.Buffers.{legal-take, taken, load-round}
 use Rattle.model.proofs.Choosing.{Lawful}
 use Rattle.model.proofs.Rounds.{own-action}
@@ -24,23 +23,10 @@ use Rattle.lookup.specs.Lookup.{Below}
 use Rattle.playing.specs.Playing.{Holds, acted}
 use Rattle.playing.specs.declared.Buffers.{Buffers}
 use Rattle.playing.proofs.Laws.{holds-same}
-use Rattle.choosing.specs.Right.{DiskRight, Right}
-use Rattle.choosing.specs.Moving.{Moved}
+use Rattle.choosing.specs.Right.{DiskRight}
 use Rattle.writing.specs.Writing.{actionOf}
-use Rattle.planning.specs.Acting.{midState, AtDisk, Advanced}
+use Rattle.acting.specs.Acting.{midState, AtDisk}
 use Rattle.choosing.proofs.DiskTables.{SameOn, disk-same, disk-elsewhere, load-same}
-
--- what `advance` and `lead` do together
-pub advanced : (refs : List ℕ) (resident : List Bool) (again follow later look : List ℕ) (d h p : ℕ) (later′ look′ : List ℕ) → h ≡ getD look d 0
-    → Moved refs resident again follow later h p later′ → (p < length refs → getD resident (getD refs p 0) false ≡ false) → look′ ≡ set look d p → d < length look
-    → Advanced refs resident again follow later look d later′ look′
-advanced refs resident again follow later look d h p later′ look′ e m s q l =
-    let at : getD look′ d 0 ≡ p = ap (λ (x : List ℕ). getD x d 0) q ∙ getD-set-same look d p 0 l in
-    record {
-      moved = subst (λ (x : ℕ). Moved refs resident again follow later x (getD look′ d 0) later′) e (subst (λ (x : ℕ). Moved refs resident again follow later h x later′) (sym at) m);
-      stops = subst (λ (x : ℕ). x < length refs → getD resident (getD refs x 0) false ≡ false) (sym at) s;
-      kept = q ∙ ap (set look d) (sym at);
-    }
 
 -- actions one after the other
 actAll-append : (marks : List Bool) (l m : List Action) → actAll marks (l ++ m) ≡ actAll (actAll marks l) m

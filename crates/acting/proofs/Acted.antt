@@ -1,31 +1,30 @@
 -- The three things that a disk can do in a round, each as the planner's functions do it, keep the tables right. Assumes nothing.
 use mathlib.Core.Path.{_≡_, refl, sym, ap, _∙_, subst}
 use mathlib.Core.Logic.{_≢_}
-use mathlib.Core.Bool.{Bool, true, false, cond}
+use mathlib.Core.Bool.{Bool, true, false}
 use mathlib.Core.List.{List}
 use Prim.Native.Nat.{ℕ, suc, _+_, _-_, _*_, _≤_, _<_}
 use native.Mathlib.Omega.{arith}
 use lib.Dec.{lit<}
 use lib.ListN.{length, getD, set, length-set}
-use lib.Seq.{getD-set-same, getD-set-other}
-use Rattle.model.specs.Job.{Job, Sound, diskCount, blockCount, refCount, slotsOf, diskOf, refAt}
+use lib.Seq.{getD-set-other}
+use Rattle.model.specs.Job.{Job, Sound, diskCount, blockCount, refCount, slotsOf, refAt}
 use Rattle.model.specs.Playing.{Action, idle, fetch, replace, State, isResident, load, act}
-use Rattle.model.specs.Rules.{Choice, intoEmpty, overMinBlock, action, Rule, distance, distanceNow}
+use Rattle.model.specs.Rules.{action, Rule, distance}
 use Rattle.model.specs.Valid.{Block, Legal}
-use Rattle.model.proofs.Choosing.{Lawful, View, over, RuleView, short-lawful, sparing-lawful}
+use Rattle.model.proofs.Choosing.{Lawful, short-lawful, sparing-lawful}
 use Rattle.model.specs.Valid.{Ready}
-use Rattle.lookup.specs.Lookup.{Below}
 use Rattle.playing.specs.Playing.{Holds, acted, fetchInto, replaceIn}
 use Rattle.playing.specs.declared.Buffers.{Buffers}
 use Rattle.playing.proofs.Laws.{holds-fetch, holds-replace}
-use Rattle.choosing.specs.Right.{Listed, Pointer, DiskRight, Right}
-use Rattle.choosing.specs.Moving.{Forward, Moved}
+use Rattle.choosing.specs.Right.{Listed, Pointer, DiskRight}
+use Rattle.choosing.specs.Moving.{Forward, Moved, Advanced}
 use Rattle.writing.specs.Writing.{actionOf}
-use Rattle.planning.specs.Acting.{ruleOf, midState, AtDisk, Advanced}
+use Rattle.acting.specs.Acting.{ruleOf, midState, AtDisk}
 use Rattle.choosing.proofs.DiskTables.{pointed, pointer-into, pointer-over, listed-into, listed-over, places-elsewhere}
 use Rattle.choosing.proofs.Pointing.{disk-moved}
 use Rattle.writing.proofs.Packing.{action-idle, action-fetch, action-replace}
-use Rattle.planning.proofs.Stepping.{below-set, mid-load, mid-few, stepped}
+use Rattle.acting.proofs.Stepping.{below-set, mid-load, stepped}
 
 pub lawful-of : (spares : Bool) → Lawful (ruleOf spares)
 lawful-of true = sparing-lawful

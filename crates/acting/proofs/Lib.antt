@@ -1,0 +1,3 @@
+mod Stepping
+pub mod Acted
+mod Facing
