@@ -20,7 +20,7 @@ use Rattle.choosing.specs.declared.Choice.{Choice}
 use Rattle.choosing.specs.declared.Choice.the-variants.{IntoEmpty, OverMinBlock, MinBlockSooner, Waits, NoneMissing}
 use Rattle.choosing.specs.Choosing.{chooseFrom}
 use Rattle.acting.specs.Acting.{jobWith, stateOf, ruleOf, Setting, AtDisk}
-use Rattle.acting.proofs.Facing.{some-slot, slot-few, held-few, next-small, look-within, sooner-step, waits-step, none-step, into-small, into-room, into-step, over-small, over-place, over-held, over-step}
+use Rattle.acting.proofs.Facing.{Turn, picked, some-slot, slot-few, held-few, next-small, look-within, sooner-step, waits-step, none-step, into-small, into-room, into-step, over-small, over-place, over-held, over-step}
 use Rattle.acting.proofs.act_all.Statement.{statement}
 use Rattle.acting.proofs.act_all.Tie as tie
 
@@ -40,17 +40,46 @@ turn c = c .before .before .before .before .before .before .before
 abbrev entry : tie.In-loop Inv-loop μ-loop → tie.Start Inv-loop μ-loop
 entry c = c .before .before .before
 
+-- what is known at the turn of a disk
+abbrev facing : tie.In-loop Inv-loop μ-loop → Turn
+facing t =
+    let e = entry t in
+    let l = t .before .loop in
+    record {
+      disks = e .args .disks;
+      slots = e .args .slots .now;
+      blocks = e .args .blocks;
+      disk = e .args .disk .now;
+      refs = e .args .refs .now;
+      again = e .args .again .now;
+      follow = e .args .follow .now;
+      spares = e .args .sparing;
+      b₀ = e .args .buffers;
+      round = e .args .round;
+      setting = l .inv .1;
+      ready = l .inv .2;
+      d = l .d;
+      l = t .loop-test .taken;
+      b = l .b;
+      residents = l .residents;
+      look = l .look;
+      later = l .later;
+      next = e .args .next .now;
+      fetched = l .fetched;
+      discarded = l .discarded;
+      h = l .inv .3;
+    }
+
 disk-small : (t : tie.In-loop Inv-loop μ-loop) → t .before .loop .d < 8
 disk-small t = let few = t .before .loop .inv .1 .fewDisks in let l = t .loop-test .taken in omega (arith, few, l)
 
 -- what was chosen
-chose : (c : tie.After-choose Inv-loop μ-loop) → let t = turn c in let e = entry t in let l = t .before .loop in
-    c .choose .result ≡ chooseFrom (e .args .refs .now) (getD (l .look) (l .d) 0) (l .residents) (l .d * 64) (getD (l .b .held) (l .d) 0) (getD (e .args .slots .now) (l .d) 0) (e .args .next .now) (l .later) (e .args .sparing)
+chose : (c : tie.After-choose Inv-loop μ-loop) → c .choose .result ≡ picked (facing (turn c))
 chose c =
-    let t = turn c in
-    let e = entry t in
-    let l = t .before .loop in
-    c .choose .ensures ∙ ap (λ (p : ℕ). chooseFrom (e .args .refs .now) p (l .residents) (l .d * 64) (getD (l .b .held) (l .d) 0) (getD (e .args .slots .now) (l .d) 0) (e .args .next .now) (l .later) (e .args .sparing)) (c .before .before .before .before .head-of .ensures)
+    let f = facing (turn c) in
+    c .choose .ensures
+    ∙ ap (λ (p : ℕ). chooseFrom (f .refs) p (f .residents) (f .d * 64) (getD (f .b .held) (f .d) 0) (getD (f .slots) (f .d) 0) (f .next) (f .later) (f .spares))
+    (c .before .before .before .before .head-of .ensures)
 
 -- the idle choices, by their tags
 idle-of : (x : Choice) → OneOf (2 ∷ 3 ∷ 4 ∷ []) (tagOf (declared enum) x) → (x ≡ MinBlockSooner) ⊎ ((x ≡ Waits) ⊎ (x ≡ NoneMissing))
@@ -78,12 +107,7 @@ element-copy-out-count : tie.Need-element-copy-out-count Inv-loop μ-loop
 element-copy-out-count c = disk-small c
 
 cast-count : tie.Need-cast-count Inv-loop μ-loop
-cast-count c =
-    let t = c .before in
-    let e = entry t in
-    let l = t .before .loop in
-    let f = held-few (e .args .disks) (e .args .slots .now) (e .args .blocks) (e .args .disk .now) (e .args .refs .now) (e .args .again .now) (e .args .follow .now) (e .args .sparing) (e .args .buffers) (e .args .round) (l .inv .1) (l .inv .2) (l .d) (t .loop-test .taken) (l .b) (l .residents) (l .look) (l .later) (e .args .next .now) (l .fetched) (l .discarded) (l .inv .3) in
-    omega (arith, f)
+cast-count c = (let f = held-few (facing (c .before)) in omega (arith, f))
 
 head-of-requires : tie.Need-head-of-requires Inv-loop μ-loop
 head-of-requires c κs = disk-small (c .before .before)
@@ -95,31 +119,23 @@ element-copy-out-choose : tie.Need-element-copy-out-choose Inv-loop μ-loop
 element-copy-out-choose c = disk-small (c .before .before .before .before)
 
 cast-choose : tie.Need-cast-choose Inv-loop μ-loop
-cast-choose c =
-    let t = c .before .before .before .before .before in
-    let e = entry t in
-    let l = t .before .loop in
-    let f = slot-few (e .args .disks) (e .args .slots .now) (e .args .blocks) (e .args .disk .now) (e .args .refs .now) (e .args .again .now) (e .args .follow .now) (e .args .sparing) (e .args .buffers) (e .args .round) (l .inv .1) (l .inv .2) (l .d) (t .loop-test .taken) (l .b) (l .residents) (l .look) (l .later) (e .args .next .now) (l .fetched) (l .discarded) (l .inv .3) in
-    omega (arith, f)
+cast-choose c = (let f = slot-few (facing (c .before .before .before .before .before)) in omega (arith, f))
 
 choose-requires : tie.Need-choose-requires Inv-loop μ-loop
 choose-requires c κs =
     let t = c .before .before .before .before .before .before in
-    let e = entry t in
-    let l = t .before .loop in
-    let f = held-few (e .args .disks) (e .args .slots .now) (e .args .blocks) (e .args .disk .now) (e .args .refs .now) (e .args .again .now) (e .args .follow .now) (e .args .sparing) (e .args .buffers) (e .args .round) (l .inv .1) (l .inv .2) (l .d) (t .loop-test .taken) (l .b) (l .residents) (l .look) (l .later) (e .args .next .now) (l .fetched) (l .discarded) (l .inv .3) in
+    let f = held-few (facing t) in
     let s = disk-small t in
-    (some-slot (e .args .disks) (e .args .slots .now) (e .args .blocks) (e .args .disk .now) (e .args .refs .now) (e .args .again .now) (e .args .follow .now) (e .args .sparing) (e .args .buffers) (e .args .round) (l .inv .1) (l .inv .2) (l .d) (t .loop-test .taken) (l .b) (l .residents) (l .look) (l .later) (e .args .next .now) (l .fetched) (l .discarded) (l .inv .3), omega (arith, f, s), l .inv .3 .small, next-small (e .args .disks) (e .args .slots .now) (e .args .blocks) (e .args .disk .now) (e .args .refs .now) (e .args .again .now) (e .args .follow .now) (e .args .sparing) (e .args .buffers) (e .args .round) (l .inv .1) (l .inv .2) (l .d) (t .loop-test .taken) (l .b) (l .residents) (l .look) (l .later) (e .args .next .now) (l .fetched) (l .discarded) (l .inv .3))
+    (some-slot (facing t), omega (arith, f, s), t .before .loop .inv .3 .small, next-small (facing t))
 
 enum-known-c : tie.Need-enum-known-c Inv-loop μ-loop
 enum-known-c c = c .match .keys1
 
 cast-fetched : tie.Need-cast-fetched Inv-loop μ-loop
 cast-fetched c =
-    let t = turn (c .before .before .before) in
-    let e = entry t in
-    let l = t .before .loop in
-    let f = into-small (e .args .disks) (e .args .slots .now) (e .args .blocks) (e .args .disk .now) (e .args .refs .now) (e .args .again .now) (e .args .follow .now) (e .args .sparing) (e .args .buffers) (e .args .round) (l .inv .1) (l .inv .2) (l .d) (t .loop-test .taken) (l .b) (l .residents) (l .look) (l .later) (e .args .next .now) (l .fetched) (l .discarded) (l .inv .3) (c .before .before .before .choose .result) (chose (c .before .before .before)) (c .before .c .given .0 .0) (c .before .c .given .1) in
+    let k = c .before .before .before in
+    let g = c .before .c .given in
+    let f = into-small (facing (turn k)) (k .choose .result) (chose k) (g .0 .0) (g .1) in
     omega (arith, f)
 
 mul-fetched : tie.Need-mul-fetched Inv-loop μ-loop
@@ -136,21 +152,28 @@ element-write-discarded c = disk-small (turn (c .before .before .before))
 
 enter-requires : tie.Need-enter-requires Inv-loop μ-loop
 enter-requires c κs =
-    let t = turn (c .before .before .before .before .before .before) in
-    let e = entry t in
-    let l = t .before .loop in
-    let cc = c .before .before .before .before .c in
-    ((disk-small t, into-small (e .args .disks) (e .args .slots .now) (e .args .blocks) (e .args .disk .now) (e .args .refs .now) (e .args .again .now) (e .args .follow .now) (e .args .sparing) (e .args .buffers) (e .args .round) (l .inv .1) (l .inv .2) (l .d) (t .loop-test .taken) (l .b) (l .residents) (l .look) (l .later) (e .args .next .now) (l .fetched) (l .discarded) (l .inv .3) (c .before .before .before .before .before .before .choose .result) (chose (c .before .before .before .before .before .before)) (cc .given .0 .0) (cc .given .1), into-room (e .args .disks) (e .args .slots .now) (e .args .blocks) (e .args .disk .now) (e .args .refs .now) (e .args .again .now) (e .args .follow .now) (e .args .sparing) (e .args .buffers) (e .args .round) (l .inv .1) (l .inv .2) (l .d) (t .loop-test .taken) (l .b) (l .residents) (l .look) (l .later) (e .args .next .now) (l .fetched) (l .discarded) (l .inv .3) (c .before .before .before .before .before .before .choose .result) (chose (c .before .before .before .before .before .before)) (cc .given .0 .0) (cc .given .1), look-within (e .args .disks) (e .args .slots .now) (e .args .blocks) (e .args .disk .now) (e .args .refs .now) (e .args .again .now) (e .args .follow .now) (e .args .sparing) (e .args .buffers) (e .args .round) (l .inv .1) (l .inv .2) (l .d) (t .loop-test .taken) (l .b) (l .residents) (l .look) (l .later) (e .args .next .now) (l .fetched) (l .discarded) (l .inv .3), l .inv .3 .right .longLook), (l .inv .1 .fewRefs, l .inv .1 .small, l .inv .1 .ahead))
+    let k = c .before .before .before .before .before .before in
+    let g = c .before .before .before .before .c .given in
+    let t = turn k in
+    let i = t .before .loop .inv in (
+      (
+        disk-small t,
+        into-small (facing t) (k .choose .result) (chose k) (g .0 .0) (g .1),
+        into-room (facing t) (k .choose .result) (chose k) (g .0 .0) (g .1),
+        look-within (facing t),
+        i .3 .right .longLook,
+      ),
+      (i .1 .fewRefs, i .1 .small, i .1 .ahead),
+    )
 
 enum-known-c-2 : tie.Need-enum-known-c-2 Inv-loop μ-loop
 enum-known-c-2 c = c .match .keys2
 
 cast-fetched-2 : tie.Need-cast-fetched-2 Inv-loop μ-loop
 cast-fetched-2 c =
-    let t = turn (c .before .before .before) in
-    let e = entry t in
-    let l = t .before .loop in
-    let f = over-small (e .args .disks) (e .args .slots .now) (e .args .blocks) (e .args .disk .now) (e .args .refs .now) (e .args .again .now) (e .args .follow .now) (e .args .sparing) (e .args .buffers) (e .args .round) (l .inv .1) (l .inv .2) (l .d) (t .loop-test .taken) (l .b) (l .residents) (l .look) (l .later) (e .args .next .now) (l .fetched) (l .discarded) (l .inv .3) (c .before .before .before .choose .result) (chose (c .before .before .before)) (c .before .c2 .given .0 .0) (c .before .c2 .given .0 .1 .0) (c .before .c2 .given .1) in
+    let k = c .before .before .before in
+    let g = c .before .c2 .given in
+    let f = over-small (facing (turn k)) (k .choose .result) (chose k) (g .0 .0) (g .0 .1 .0) (g .1) in
     omega (arith, f)
 
 mul-fetched-2 : tie.Need-mul-fetched-2 Inv-loop μ-loop
@@ -161,18 +184,16 @@ element-write-fetched-2 c = disk-small (turn (c .before .before .before))
 
 mul-discarded-2 : tie.Need-mul-discarded-2 Inv-loop μ-loop
 mul-discarded-2 c =
-    let t = turn (c .before .before .before) in
-    let e = entry t in
-    let l = t .before .loop in
-    let f = over-place (e .args .disks) (e .args .slots .now) (e .args .blocks) (e .args .disk .now) (e .args .refs .now) (e .args .again .now) (e .args .follow .now) (e .args .sparing) (e .args .buffers) (e .args .round) (l .inv .1) (l .inv .2) (l .d) (t .loop-test .taken) (l .b) (l .residents) (l .look) (l .later) (e .args .next .now) (l .fetched) (l .discarded) (l .inv .3) (c .before .before .before .choose .result) (chose (c .before .before .before)) (c .before .c2 .given .0 .0) (c .before .c2 .given .0 .1 .0) (c .before .c2 .given .1) in
+    let k = c .before .before .before in
+    let g = c .before .c2 .given in
+    let f = over-place (facing (turn k)) (k .choose .result) (chose k) (g .0 .0) (g .0 .1 .0) (g .1) in
     omega (arith, f)
 
 element-copy-out-discarded : tie.Need-element-copy-out-discarded Inv-loop μ-loop
 element-copy-out-discarded c =
-    let t = turn (c .before .before .before) in
-    let e = entry t in
-    let l = t .before .loop in
-    over-place (e .args .disks) (e .args .slots .now) (e .args .blocks) (e .args .disk .now) (e .args .refs .now) (e .args .again .now) (e .args .follow .now) (e .args .sparing) (e .args .buffers) (e .args .round) (l .inv .1) (l .inv .2) (l .d) (t .loop-test .taken) (l .b) (l .residents) (l .look) (l .later) (e .args .next .now) (l .fetched) (l .discarded) (l .inv .3) (c .before .before .before .choose .result) (chose (c .before .before .before)) (c .before .c2 .given .0 .0) (c .before .c2 .given .0 .1 .0) (c .before .c2 .given .1)
+    let k = c .before .before .before in
+    let g = c .before .c2 .given in
+    over-place (facing (turn k)) (k .choose .result) (chose k) (g .0 .0) (g .0 .1 .0) (g .1)
 
 mul-discarded-3 : tie.Need-mul-discarded-3 Inv-loop μ-loop
 mul-discarded-3 c = (let s = disk-small (turn (c .before .before .before .before)) in omega (arith, s))
@@ -182,11 +203,19 @@ element-write-discarded-2 c = disk-small (turn (c .before .before .before .befor
 
 swap-in-requires : tie.Need-swap-in-requires Inv-loop μ-loop
 swap-in-requires c κs =
-    let t = turn (c .before .before .before .before .before .before .before) in
-    let e = entry t in
-    let l = t .before .loop in
-    let cc = c .before .before .before .before .before .c2 in
-    ((disk-small t, over-small (e .args .disks) (e .args .slots .now) (e .args .blocks) (e .args .disk .now) (e .args .refs .now) (e .args .again .now) (e .args .follow .now) (e .args .sparing) (e .args .buffers) (e .args .round) (l .inv .1) (l .inv .2) (l .d) (t .loop-test .taken) (l .b) (l .residents) (l .look) (l .later) (e .args .next .now) (l .fetched) (l .discarded) (l .inv .3) (c .before .before .before .before .before .before .before .choose .result) (chose (c .before .before .before .before .before .before .before)) (cc .given .0 .0) (cc .given .0 .1 .0) (cc .given .1), over-place (e .args .disks) (e .args .slots .now) (e .args .blocks) (e .args .disk .now) (e .args .refs .now) (e .args .again .now) (e .args .follow .now) (e .args .sparing) (e .args .buffers) (e .args .round) (l .inv .1) (l .inv .2) (l .d) (t .loop-test .taken) (l .b) (l .residents) (l .look) (l .later) (e .args .next .now) (l .fetched) (l .discarded) (l .inv .3) (c .before .before .before .before .before .before .before .choose .result) (chose (c .before .before .before .before .before .before .before)) (cc .given .0 .0) (cc .given .0 .1 .0) (cc .given .1), below-any 512 (l .residents) (lit< tt) (l .inv .3 .small) (cc .given .0 .1 .0), over-held (e .args .disks) (e .args .slots .now) (e .args .blocks) (e .args .disk .now) (e .args .refs .now) (e .args .again .now) (e .args .follow .now) (e .args .sparing) (e .args .buffers) (e .args .round) (l .inv .1) (l .inv .2) (l .d) (t .loop-test .taken) (l .b) (l .residents) (l .look) (l .later) (e .args .next .now) (l .fetched) (l .discarded) (l .inv .3) (c .before .before .before .before .before .before .before .choose .result) (chose (c .before .before .before .before .before .before .before)) (cc .given .0 .0) (cc .given .0 .1 .0) (cc .given .1)), ((look-within (e .args .disks) (e .args .slots .now) (e .args .blocks) (e .args .disk .now) (e .args .refs .now) (e .args .again .now) (e .args .follow .now) (e .args .sparing) (e .args .buffers) (e .args .round) (l .inv .1) (l .inv .2) (l .d) (t .loop-test .taken) (l .b) (l .residents) (l .look) (l .later) (e .args .next .now) (l .fetched) (l .discarded) (l .inv .3), l .inv .3 .right .longLook), (l .inv .1 .fewRefs, l .inv .1 .small, l .inv .1 .ahead)))
+    let k = c .before .before .before .before .before .before .before in
+    let g = c .before .before .before .before .before .c2 .given in
+    let t = turn k in
+    let i = t .before .loop .inv in (
+      (
+        disk-small t,
+        over-small (facing t) (k .choose .result) (chose k) (g .0 .0) (g .0 .1 .0) (g .1),
+        over-place (facing t) (k .choose .result) (chose k) (g .0 .0) (g .0 .1 .0) (g .1),
+        below-any 512 (t .before .loop .residents) (lit< tt) (i .3 .small) (g .0 .1 .0),
+        over-held (facing t) (k .choose .result) (chose k) (g .0 .0) (g .0 .1 .0) (g .1),
+      ),
+      ((look-within (facing t), i .3 .right .longLook), (i .1 .fewRefs, i .1 .small, i .1 .ahead)),
+    )
 
 mul-fetched-3 : tie.Need-mul-fetched-3 Inv-loop μ-loop
 mul-fetched-3 c = (let s = disk-small (turn (c .before)) in omega (arith, s))
@@ -208,22 +237,23 @@ loop-less c = (let s = turn (c .before) .loop-test .taken in omega (arith, s))
 
 loop-again : tie.Need-loop-again Inv-loop μ-loop
 loop-again c =
-    let t = turn (c .before) in
-    let e = entry t in
-    let l = t .before .loop in (
+    let k = c .before in
+    let t = turn k in (
       omega arith,
-      l .inv .1,
-      l .inv .2,
+      t .before .loop .inv .1,
+      t .before .loop .inv .2,
       ⊎-elim
           (λ w. at-same (w .12) (w .9) (w .8) (w .7) (w .10) (w .11)
-          (into-step (e .args .disks) (e .args .slots .now) (e .args .blocks) (e .args .disk .now) (e .args .refs .now) (e .args .again .now) (e .args .follow .now) (e .args .sparing) (e .args .buffers) (e .args .round) (l .inv .1) (l .inv .2) (l .d) (t .loop-test .taken) (l .b) (l .residents) (l .look) (l .later) (e .args .next .now) (l .fetched) (l .discarded) (l .inv .3) (c .before .choose .result) (chose (c .before)) (w .1 .given .0 .0) (w .1 .given .1) (w .6 .result) _ _ _ (w .6 .ensures .0) (w .6 .ensures .1 .0) (w .6 .ensures .1 .1)))
+          (into-step (facing t) (k .choose .result) (chose k) (w .1 .given .0 .0) (w .1 .given .1) (w .6 .result) _ _ _
+          (w .6 .ensures .0) (w .6 .ensures .1 .0) (w .6 .ensures .1 .1)))
           (⊎-elim
           (λ w. at-same (w .13) (w .10) (w .9) (w .8) (w .11) (w .12)
-          (over-step (e .args .disks) (e .args .slots .now) (e .args .blocks) (e .args .disk .now) (e .args .refs .now) (e .args .again .now) (e .args .follow .now) (e .args .sparing) (e .args .buffers) (e .args .round) (l .inv .1) (l .inv .2) (l .d) (t .loop-test .taken) (l .b) (l .residents) (l .look) (l .later) (e .args .next .now) (l .fetched) (l .discarded) (l .inv .3) (c .before .choose .result) (chose (c .before)) (w .1 .given .0 .0) (w .1 .given .0 .1 .0) (w .1 .given .1) (w .7 .result) _ _ _ (w .7 .ensures .0) (w .7 .ensures .1 .0) (w .7 .ensures .1 .1)))
+          (over-step (facing t) (k .choose .result) (chose k) (w .1 .given .0 .0) (w .1 .given .0 .1 .0) (w .1 .given .1) (w .7 .result) _ _ _
+          (w .7 .ensures .0) (w .7 .ensures .1 .0) (w .7 .ensures .1 .1)))
           (λ w. at-same (w .6) (w .3) (w .2) (w .1) (w .4) (w .5) (⊎-elim
-          (λ q. sooner-step (e .args .disks) (e .args .slots .now) (e .args .blocks) (e .args .disk .now) (e .args .refs .now) (e .args .again .now) (e .args .follow .now) (e .args .sparing) (e .args .buffers) (e .args .round) (l .inv .1) (l .inv .2) (l .d) (t .loop-test .taken) (l .b) (l .residents) (l .look) (l .later) (e .args .next .now) (l .fetched) (l .discarded) (l .inv .3) (c .before .choose .result) (chose (c .before)) q)
-          (⊎-elim (λ q. waits-step (e .args .disks) (e .args .slots .now) (e .args .blocks) (e .args .disk .now) (e .args .refs .now) (e .args .again .now) (e .args .follow .now) (e .args .sparing) (e .args .buffers) (e .args .round) (l .inv .1) (l .inv .2) (l .d) (t .loop-test .taken) (l .b) (l .residents) (l .look) (l .later) (e .args .next .now) (l .fetched) (l .discarded) (l .inv .3) (c .before .choose .result) (chose (c .before)) q) (λ q. none-step (e .args .disks) (e .args .slots .now) (e .args .blocks) (e .args .disk .now) (e .args .refs .now) (e .args .again .now) (e .args .follow .now) (e .args .sparing) (e .args .buffers) (e .args .round) (l .inv .1) (l .inv .2) (l .d) (t .loop-test .taken) (l .b) (l .residents) (l .look) (l .later) (e .args .next .now) (l .fetched) (l .discarded) (l .inv .3) (c .before .choose .result) (chose (c .before)) q))
-          (idle-of (c .before .choose .result) (w .0 .keys3)))))
+          (λ q. sooner-step (facing t) (k .choose .result) (chose k) q)
+          (⊎-elim (λ q. waits-step (facing t) (k .choose .result) (chose k) q) (λ q. none-step (facing t) (k .choose .result) (chose k) q))
+          (idle-of (k .choose .result) (w .0 .keys3)))))
           (c .match .came),
     )
 
