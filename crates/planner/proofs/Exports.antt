@@ -82,7 +82,7 @@ planned-number (given p) = refl
 planned-number (refused n) = refl
 
 -- the number of a planning call that is refused
-plan-number : (t : List ℕ) (a b n : ℕ) → planning t a b ≡ refused n → (1 ≤ n) × (n ≤ 18)
+pub plan-number : (t : List ℕ) (a b n : ℕ) → planning t a b ≡ refused n → (1 ≤ n) × (n ≤ 18)
 unfolding withRooms
 plan-number t a b n e =
     by-test (eqb (ticketRead t .number) 0)

@@ -1,0 +1,37 @@
+-- Text put into a lent slice, and the text of a planning call's value. Assumes nothing.
+use mathlib.Core.Path.{_≡_}
+use mathlib.Core.List.{List, _++_}
+use Prim.Native.Nat.{ℕ, _+_, _≤_}
+use lib.ListN.{length, getD}
+use Rattle.bits.specs.Fields.{laidAt}
+use Rattle.model.specs.Calls.{isShort, isSparing}
+use Rattle.planner.specs.declared.Counts.{Counts}
+use Rattle.planner.specs.declared.Planned.{Planned}
+use Rattle.planner.specs.declared.Mark.{Mark}
+use Rattle.planner.specs.declared.Mark.the-variants.{Missing, Short, Sparing}
+use Rattle.report.specs.Report.{lineEnd, diskLines, refusedWord, markWord}
+
+-- A text written into a slice from the byte `at` on, as far as the slice reaches: the slice before and after it, and the place after the text.
+pub record Put (at : ℕ) (text before after : List ℕ) (place : ℕ) : Type 0 where
+  pub bytes : after ≡ laidAt at text before
+  pub next : place ≡ at + length text
+
+-- The lines of a plan: its mark and its rounds, and then each disk.
+unfoldable pub planText : List ℕ → Counts → ℕ → List ℕ
+unfolding lineEnd diskLines
+planText word c disks = word ++ (lineEnd (c .rounds) ++ diskLines (λ d. getD (c .fetches) d 0) disks)
+
+abbrev pub textBy : Mark → Planned → ℕ → List ℕ
+textBy Missing p disks = refusedWord ++ lineEnd (p .number)
+textBy Short p disks = planText (markWord isShort) (p .short) disks
+textBy Sparing p disks = planText (markWord isSparing) (p .sparing) disks
+
+unfoldable pub textOf : Planned → ℕ → List ℕ
+unfolding planText
+textOf p disks = textBy (p .mark) p disks
+
+-- The numbers of a call and of its plans are as document 01 bounds them.
+pub record Small (p : Planned) : Type 0 where
+  pub number : p .number ≤ 18
+  pub short : p .short .rounds ≤ 2048
+  pub sparing : p .sparing .rounds ≤ 2048

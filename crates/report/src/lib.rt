@@ -1,0 +1,127 @@
+// The text that the program prints for a ticket. Document 01: "mark and rounds of the chosen plan, then each disk with its fetches in that plan. A
+// refusal prints `refused`, a space and the number. Every line ends in a line feed."
+use planner::Counts;
+use planner::Mark;
+use planner::Planned;
+ghost use mathlib.Core.Path.{_≡_};
+ghost use mathlib.Core.List.{[], _∷_};
+ghost use Prim.Native.Nat.{_+_, _*_, _≤_, _<_};
+ghost use lib.ListN.{length, getD};
+ghost use Rattle.bits.specs.Bits.{laid};
+ghost use Rattle.report.specs.Report.{decimal, lineEnd, diskLines, printed};
+ghost use Rattle.report.specs.Text.{Put, planText, textOf, Small};
+
+// Text is written into `out` from the byte `at` on, as far as `out` reaches. Each function below gives the place after its text.
+
+// One byte.
+fn put(out: &mut [u8], at: usize, byte: u8) -> usize
+    requires { ⌜ at < 65536 ⌝ }
+    ensures { λ r. ⌜ Put at (byte ∷ []) (now (out .entry)) (now (out .exit)) r ⌝ }
+{
+    if out.len() <= at {
+        return at + 1;
+    }
+    out[at] = byte;
+    at + 1
+}
+
+// A string.
+fn put_word(out: &mut [u8], at: usize, word: &[u8]) -> usize
+    requires { ⌜ at < 256 ⌝ }
+    requires { ⌜ length (now word) < 256 ⌝ }
+    ensures { λ r. ⌜ Put at (now (word .entry)) (now (out .entry)) (now (out .exit)) r ⌝ }
+{
+    let mut i = 0;
+    while i < word.len() {
+        put(out, at + i, word[i]);
+        i += 1;
+    }
+    at + i
+}
+
+// A number in decimal digits.
+fn put_decimal(out: &mut [u8], at: usize, n: usize) -> usize
+    requires { ⌜ at < 256 ⌝ }
+    requires { ⌜ n < 65536 ⌝ }
+    ensures { λ r. ⌜ Put at (decimal n) (now (out .entry)) (now (out .exit)) r ⌝ }
+{
+    if n < 10 {
+        return put(out, at, (48 + n) as u8);
+    }
+    let next = put_decimal(out, at, n / 10);
+    put(out, next, (48 + n % 10) as u8)
+}
+
+// The end of a line: a space, a number and a line feed.
+fn put_end(out: &mut [u8], at: usize, n: usize) -> usize
+    requires { ⌜ at < 255 ⌝ }
+    requires { ⌜ n < 65536 ⌝ }
+    ensures { λ r. ⌜ Put at (lineEnd n) (now (out .entry)) (now (out .exit)) r ⌝ }
+{
+    let number = put(out, at, b' ');
+    let next = put_decimal(out, number, n);
+    put(out, next, b'\n')
+}
+
+// The lines of the first `disks` disks.
+fn put_disks(out: &mut [u8], start: usize, fetches: [u16; 8], disks: usize) -> usize
+    requires { ⌜ start ≤ 14 ⌝ }
+    requires { ⌜ disks ≤ 8 ⌝ }
+    ensures text { λ r. ⌜ Put start (diskLines (λ d. getD fetches d 0) disks) (now (out .entry)) (now (out .exit)) r ⌝ }
+    ensures few { λ r. ⌜ r ≤ start + disks * 8 ⌝ }
+{
+    let mut at = start;
+    let mut d = 0;
+    while d < disks {
+        let next = put_decimal(out, at, d);
+        at = put_end(out, next, fetches[d] as usize);
+        d += 1;
+    }
+    at
+}
+
+// The lines of a plan.
+fn put_plan(out: &mut [u8], word: &[u8], plan: Counts, disks: usize) -> usize
+    requires { ⌜ length (now word) ≤ 7 ⌝ }
+    requires { ⌜ plan .rounds ≤ 2048 ⌝ }
+    requires { ⌜ disks ≤ 8 ⌝ }
+    ensures text { λ r. ⌜ Put 0 (planText (now (word .entry)) plan disks) (now (out .entry)) (now (out .exit)) r ⌝ }
+    ensures few { λ r. ⌜ r ≤ 128 ⌝ }
+{
+    let fetches = plan.fetches;
+    let rounds = put_word(out, 0, word);
+    let start = put_end(out, rounds, plan.rounds);
+    put_disks(out, start, fetches, disks)
+}
+
+// What planning gives, as text.
+fn put_planned(out: &mut [u8], planned: Planned, disks: usize) -> usize
+    requires { ⌜ Small planned ⌝ }
+    requires { ⌜ disks ≤ 8 ⌝ }
+    ensures text { λ r. ⌜ Put 0 (textOf planned disks) (now (out .entry)) (now (out .exit)) r ⌝ }
+    ensures few { λ r. ⌜ r ≤ 128 ⌝ }
+{
+    let mark = planned.mark;
+    match mark {
+        Mark::Missing => {
+            let at = put_word(out, 0, b"refused");
+            put_end(out, at, planned.number)
+        }
+        Mark::Short => put_plan(out, b"short", planned.short, disks),
+        Mark::Sparing => put_plan(out, b"sparing", planned.sparing, disks),
+    }
+}
+
+// The text for a ticket, written as far as `out` reaches, and its length, at most 128 bytes.
+pub fn report(ticket: &[u8], out: &mut [u8]) -> usize
+    ensures bytes { λ r. ⌜ now (out .exit) ≡ laid (printed (now (ticket .entry))) (now (out .entry)) ⌝ }
+    ensures count { λ r. ⌜ r ≡ length (printed (now (ticket .entry))) ⌝ }
+    ensures few { λ r. ⌜ r ≤ 128 ⌝ }
+{
+    let mut short = [0u8; 40962];
+    let mut sparing = [0u8; 40962];
+    let planned = planner::plan(ticket, &mut short, &mut sparing);
+    let read = ticket::read(ticket);
+    let disks = read.job.disks;
+    put_planned(out, planned, disks)
+}
