@@ -1,0 +1,142 @@
+-- Why a long input may be cut: no reading of a ticket looks past its first 20,058 bits, so the first 2,508 bytes answer for all. Assumes nothing.
+use mathlib.Core.Path.{_≡_, refl, sym, ap, _∙_}
+use mathlib.Core.Bool.{Bool, true, false, _&&_, true≢false}
+use mathlib.Core.List.{List, [], _∷_, _++_, append-assoc}
+use Prim.Native.Nat.{ℕ, zero, suc, _+_, _*_, _≤_}
+use native.Mathlib.Nat.{suc-mul}
+use native.Mathlib.Omega.{arith}
+use lib.Dec.{ltb, leb, eqb}
+use lib.ListN.{length, take, drop, length-append, take-append-drop}
+use lib.Seq.{length-take-le, take-all}
+use borrow.Author.Tests.{ltb-false, le-ltb, leb-true, leb-false}
+use Rattle.bits.specs.Bits.{digits, bits}
+use Rattle.bits.specs.Reading.{Answer, Read, got, stop, Reader, bind, _>>=_, _>>_, give, fieldAfter, field, refuseIf, many, allZero, closing, answer, readAll}
+use Rattle.bits.proofs.Logic.{by-test, and-false-left, or-false-right}
+use Rattle.bits.proofs.Bits.{length-bits}
+use Rattle.bits.proofs.Reading.{stop-got, got-rest, bind-got, field-length, closing-got}
+use Rattle.model.specs.Ticket.{slotsField, diskField, refField, ticketReader, ticketOf}
+use Rattle.model.specs.Job.{Job}
+use Rattle.model.specs.Calls.{planning, plannedFor}
+use Rattle.report.specs.Report.{linesOf, disksOf, printed}
+
+-- what reading gives where more bits follow
+abbrev more : {A : Type 0} → List ℕ → Read A → Read A
+more x (got a l) = got a (l ++ x)
+more x (stop n) = stop n
+
+-- A reader that looks at the first w bits only: bits after these are left as they are.
+record Within {A : Type 0} (w : ℕ) (r : Reader A) : Type 0 where
+  same : (l x : List ℕ) → w ≤ length l → r (l ++ x) ≡ more x (r l)
+  takes : (l : List ℕ) (a : A) (rest : List ℕ) → r l ≡ got a rest → length l ≤ w + length rest
+
+widen : {A : Type 0} {r : Reader A} (v w : ℕ) → v ≤ w → Within v r → Within w r
+widen v w h p = record {
+  same = λ l x k. p .same l x (omega arith);
+  takes = λ l a rest e. let t = p .takes l a rest e in omega (arith, t);
+}
+
+of-give : {A : Type 0} (a : A) → Within 0 (give a)
+unfolding give
+of-give a = record { same = λ l x h. refl; takes = λ l b rest e. let r = ap length (got-rest e) in omega (arith, r) }
+
+field-more : (n w high : ℕ) (l x : List ℕ) → w ≤ length l → fieldAfter n w high (l ++ x) ≡ more x (fieldAfter n w high l)
+unfolding fieldAfter
+field-more n zero high l x h = refl
+field-more n (suc w) high [] x h = absurd (omega arith)
+field-more n (suc w) high (b ∷ l) x h = field-more n w (high * 2 + b) l x (omega arith)
+
+of-field : (n w : ℕ) → Within w (field n w)
+unfolding field
+of-field n w = record { same = λ l x h. field-more n w 0 l x h; takes = λ l a rest e. let r = field-length n w l e in omega (arith, r) }
+
+then : {A B : Type 0} {m : Reader A} {f : A → Reader B} (v w : ℕ) → Within v m → ((a : A) → Within w (f a)) → Within (v + w) (m >>= f)
+unfolding _>>=_ bind
+then {A} {B} {m} {f} v w p q = record {
+  same = λ l x h. ap (λ (z : Read A). bind z f) (p .same l x (omega arith)) ∙ go l x h (m l) refl;
+  takes = λ l b rest e. bind-got m f l e λ a after g k. let s = p .takes l a after g in let t = q a .takes after b rest k in omega (arith, s, t);
+}
+  where
+    go : (l x : List ℕ) → v + w ≤ length l → (z : Read A) → m l ≡ z → bind (more x z) f ≡ more x (bind z f)
+    go l x h (got a after) e = let s = p .takes l a after e in q a .same after x (omega (arith, s, h))
+    go l x h (stop n) e = refl
+
+next : {A B : Type 0} {m : Reader A} {r : Reader B} (v w : ℕ) → Within v m → Within w r → Within (v + w) (m >> r)
+unfolding _>>_ _>>=_
+next {A} {B} {m} {r} v w p q = then {m = m} {f = λ a. r} v w p (λ a. q)
+
+-- what follows a condition is read where the condition is not met
+unless : {A : Type 0} {r : Reader A} (w n : ℕ) (t : Bool) → (t ≡ false → Within w r) → Within w (refuseIf n t >> r)
+unfolding _>>_ bind refuseIf
+unless w n true p = record { same = λ l x h. refl; takes = λ l a rest e. stop-got e }
+unless w n false p = record { same = p refl .same; takes = p refl .takes }
+
+of-many : {A : Type 0} {r : Reader A} (w k : ℕ) → Within w r → Within (k * w) (many k r)
+unfolding many
+of-many w zero p = widen 0 (0 * w) (omega arith) (of-give [])
+of-many w (suc k) p = widen (w + (k * w + 0)) (suc k * w) (omega (arith, suc-mul k w)) (then w (k * w + 0) p λ a. then (k * w) 0 (of-many w k p) λ rest. of-give (a ∷ rest))
+
+stops : (n : ℕ) (l : List ℕ) → 8 ≤ length l → closing n l ≡ stop n
+unfolding closing
+stops n l h = go (ltb (length l) 8 && allZero l) (and-false-left (allZero l) (le-ltb (length l) 8 h))
+  where
+    go : (t : Bool) → t ≡ false → _≡_ {A = Read (Unit {0})} (elim t [ true ↦ got tt [] | false ↦ stop n ]) (stop n)
+    go true e = absurd (true≢false e)
+    go false e = refl
+
+of-closing : (n : ℕ) → Within 8 (closing n)
+of-closing n = record {
+  same = λ l x h. let e = length-append l x in stops n (l ++ x) (omega (arith, e)) ∙ sym (ap (more x) (stops n l h));
+  takes = λ l a rest e. closing-got n l e λ few zero. omega (arith, few);
+}
+
+of-slots : Within 7 slotsField
+unfolding slotsField
+of-slots = then 7 0 (of-field 1 7) λ s. unless 0 3 _ λ t. of-give s
+
+of-disk : (d : ℕ) → Within 3 (diskField d)
+unfolding diskField
+of-disk d = then 3 0 (of-field 1 3) λ k. unless 0 5 _ λ t. of-give k
+
+of-ref : (b : ℕ) → Within 9 (refField b)
+unfolding refField
+of-ref b = then 9 0 (of-field 1 9) λ r. unless 0 7 _ λ t. of-give r
+
+of-ticket : Within 20058 ticketReader
+unfolding ticketReader
+of-ticket =
+    then 4 20054 (of-field 1 4) λ d. unless 20054 2 _ λ td. let few = ltb-false 8 d (or-false-right (eqb d 0) (ltb 8 d) td) in
+    then 56 19998 (widen (d * 7) 56 (omega (arith, few)) (of-many 7 d of-slots)) λ slots.
+    then 10 19988 (of-field 1 10) λ b. unless 19988 4 _ λ tb. let some = ltb-false 512 b (or-false-right (eqb b 0) (ltb 512 b) tb) in
+    then 1536 18452 (widen (b * 3) 1536 (omega (arith, some)) (of-many 3 b (of-disk d))) λ disks.
+    then 12 18440 (of-field 1 12) λ n. unless 18440 6 _ λ tn. let all = ltb-false 2048 n tn in
+    then 18432 8 (widen (n * 9) 18432 (omega (arith, all)) (of-many 9 n (of-ref b))) λ refs.
+    next 8 0 (of-closing 8) (of-give _)
+
+bits-append : (s t : List ℕ) → bits (s ++ t) ≡ bits s ++ bits t
+unfolding bits
+bits-append [] t = refl
+bits-append (b ∷ s) t = ap (λ (l : List ℕ). digits 8 b ++ l) (bits-append s t) ∙ sym (append-assoc (digits 8 b) (bits s) (bits t))
+
+-- a reading that gives the same but for the bits left is the same answer
+same-answer : {A : Type 0} (x : List ℕ) (r : Read A) → answer (more x r) ≡ answer r
+unfolding answer
+same-answer x (got a l) = refl
+same-answer x (stop n) = refl
+
+-- The first 2,508 bytes are accepted as the whole is, or refused with the same number.
+pub cut-ticket : (t : List ℕ) → ticketOf (take 2508 t) ≡ ticketOf t
+unfolding ticketOf readAll
+cut-ticket t =
+    by-test (leb (length t) 2508)
+    (λ y. ap ticketOf (take-all 2508 t (leb-true (length t) 2508 y)))
+    (λ n. let long = leb-false (length t) 2508 n in
+    let s = take 2508 t in
+    let x = bits (drop 2508 t) in
+    let len = length-bits s ∙ ap (λ (k : ℕ). k * 8) (length-take-le 2508 t (omega (arith, long))) in
+    let all : bits t ≡ bits s ++ x = ap bits (sym (take-append-drop 2508 t)) ∙ bits-append s (drop 2508 t) in
+    sym (ap (λ (l : List ℕ). answer (ticketReader l)) all ∙ ap answer (of-ticket .same (bits s) x (omega (arith, len))) ∙ same-answer x (ticketReader (bits s))))
+
+-- What is printed for the first 2,508 bytes of an input is what is printed for the input.
+pub cut-printed : (t : List ℕ) → printed (take 2508 t) ≡ printed t
+unfolding printed planning
+cut-printed t = ap (λ (a : Answer Job). linesOf (disksOf a) (plannedFor 40962 40962 a)) (cut-ticket t)
