@@ -1,3 +1,4 @@
 pub mod Laws
 pub mod Printed
 pub mod Cut
+pub mod Cases

@@ -1,0 +1,22 @@
+-- Document 01: "For F the program prints exactly the lines below"; and G, short, and K's single byte 00, which is refused with 2. Assumes nothing.
+use mathlib.Core.Path.{_≡_, refl}
+use Rattle.bits.specs.Reading.{bind, _>>=_, _>>_, give, field, refuseIf, many, closing, answer, readAll}
+use Rattle.model.specs.Ticket.{slotsField, diskField, refField, ticketReader, ticketOf}
+use Rattle.model.specs.Playing.{noneResident, load, play}
+use Rattle.model.proofs.Cases.{hex}
+use Rattle.report.specs.Report.{printed}
+
+-- sparing 4, 0 2, 1 3
+pub prints-F : printed (hex 15 0x2020805009200e020180002020200c) ≡ hex 18 0x73706172696e6720340a3020320a3120330a
+unfolding printed hex _>>=_ _>>_ bind give field refuseIf many closing answer readAll slotsField diskField refField ticketReader ticketOf play load noneResident
+prints-F = refl
+
+-- short 6, 0 6, 1 5
+pub prints-G : printed (hex 32 0x2060c080002490150000404040180002050301c0404028180001010100600008) ≡ hex 16 0x73686f727420360a3020360a3120350a
+unfolding printed hex _>>=_ _>>_ bind give field refuseIf many closing answer readAll slotsField diskField refField ticketReader ticketOf play load noneResident
+prints-G = refl
+
+-- refused 2
+pub prints-K : printed (hex 1 0x00) ≡ hex 10 0x7265667573656420320a
+unfolding printed hex _>>=_ _>>_ bind give field refuseIf many closing answer readAll slotsField diskField refField ticketReader ticketOf
+prints-K = refl
