@@ -1,0 +1,67 @@
+/* plan_case_f.c - one page of C: plan a job, check the sheet to run, look at the numbers.
+ *
+ * The job is case F of document 01: two disks with 1 and 2 slots, blocks 0 and 1 on the first, 2, 3 and 4 on the
+ * second, read in the order 2 3 0 1 2 4 3. Both plans take 4 rounds; the sparing one saves a fetch on disk 1.
+ * Exit 0 only if every number and byte is as expected. */
+#include <planner.h>
+
+#include <stdio.h>
+#include <string.h>
+
+/* Field by field: D 2, slots 1 2, B 5, disks 0 0 1 1 1, N 7, references 2 3 0 1 2 4 3, two zero bits. */
+static const uint8_t ticket[15] = {0x20, 0x20, 0x80, 0x50, 0x09, 0x20, 0x0e, 0x02,
+                                   0x01, 0x80, 0x00, 0x20, 0x20, 0x20, 0x0c};
+
+/* Mark and length; rounds and eight fetch counts of the short plan; the same of the sparing plan. */
+static const unsigned numbers[20] = {1, 11, 4, 2, 4, 0, 0, 0, 0, 0, 0, 4, 2, 3, 0, 0, 0, 0, 0, 0};
+
+/* 4 rounds: fetch 0 and 2; 3 on disk 1; 1 for 0; 4 for 2. */
+static const uint8_t run_sheet[11] = {0x00, 0x48, 0x01, 0x01, 0x10, 0x1a, 0x01, 0x80, 0x08, 0x12, 0x02};
+
+static unsigned number_at(const uint8_t *counts, unsigned k)
+{
+    return (unsigned)counts[2 * k] << 8 | counts[2 * k + 1];
+}
+
+static int wrong(const char *what)
+{
+    printf("not as expected: %s\n", what);
+    return 1;
+}
+
+int main(void)
+{
+    static uint8_t short_sheet[PLANNER_LONGEST_SHEET], sparing_sheet[PLANNER_LONGEST_SHEET];
+    uint8_t planned[PLANNER_PLAN_COUNTS], checked[PLANNER_CHECK_COUNTS];
+    uint32_t number = planner_plan(ticket, sizeof ticket, short_sheet, sizeof short_sheet, sparing_sheet,
+                                   sizeof sparing_sheet, planned, sizeof planned);
+
+    if (number != PLANNER_OK) {
+        printf("refused %u\n", (unsigned)number);
+        return 1;
+    }
+    unsigned mark = number_at(planned, 0), length = number_at(planned, 1);
+    const uint8_t *sheet = mark == 1 ? sparing_sheet : short_sheet;
+    const uint8_t *plan = planned + (mark == 1 ? 22 : 4);   /* rounds and fetches of the plan to run */
+
+    printf("%s, %u rounds\n", mark == 1 ? "sparing" : "short", number_at(plan, 0));
+    for (unsigned d = 0; d < 2; d++)
+        printf("disk %u fetches %u\n", d, number_at(plan, 1 + d));
+    printf("sheet");
+    for (unsigned k = 0; k < length; k++)
+        printf(" %02x", sheet[k]);
+    printf("\n");
+
+    for (unsigned k = 0; k < 20; k++)
+        if (number_at(planned, k) != numbers[k])
+            return wrong("a number of the plans");
+    if (length != sizeof run_sheet || memcmp(sheet, run_sheet, length) != 0)
+        return wrong("the sheet");
+    if (planner_check(ticket, sizeof ticket, sheet, length, checked, sizeof checked) != PLANNER_OK)
+        return wrong("the check refuses the sheet");
+    if (memcmp(checked, plan, sizeof checked) != 0)
+        return wrong("the check's rounds and fetches");
+    if (planner_check(ticket, sizeof ticket, sheet, length - 1, checked, sizeof checked) != PLANNER_SHEET_ENDS)
+        return wrong("a sheet that is cut passes");
+    return 0;
+}
