@@ -1,0 +1,279 @@
+/* bench.c - what planning and checking cost, beside the reference.
+ *
+ * usage: bench [REPEATS [DATA]]
+ * Times the library and the reference in turn on the same bytes, REPEATS times (default 31), and prints medians as tables in
+ * markdown. Writes the figures of the growing jobs to the file DATA. Exit 1 if a ratio is above what is asked of full-size
+ * jobs: planning half of the reference's time, checking all of it. */
+#include "../tests/reference/chance.h"
+#include "../tests/reference/reference.h"
+#include "stack.h"
+#include <planner.h>
+
+#include <stdio.h>
+#include <stdlib.h>
+#include <string.h>
+#include <time.h>
+
+enum { MOST_REPEATS = 1001, CALLS = 4, ENOUGH = 100000 /* nanoseconds in one measurement, at least */ };
+enum call { PLAN, REF_PLAN, CHECK, REF_CHECK };
+
+static const double most_ratio[2] = {0.5, 1.0};   /* planning, checking */
+
+/* ---- Jobs ---- */
+
+enum pattern { RANDOM, CYCLIC, THRASH };
+
+static const char *const pattern_name[] = {"random", "cyclic", "thrash"};
+
+struct shape {
+    enum pattern pattern;
+    unsigned disks, blocks, references, slots;
+};
+
+/* Blocks lie on the disks in turn. Random: any block. Cyclic: all blocks, over and over. Thrash: disk 0 has one slot, and
+ * every second reference is the next of its blocks; the others are any block of the other disks. */
+static unsigned draw_reference(struct chance *c, const struct shape *s, unsigned i)
+{
+    unsigned any = below(c, s->blocks), on_first = (s->blocks + s->disks - 1) / s->disks;
+
+    switch (s->pattern) {
+    case CYCLIC:
+        return i % s->blocks;
+    case THRASH:
+        if (i % 2 == 0)
+            return i / 2 % on_first * s->disks;
+        return any % s->disks == 0 ? any + 1 : any;
+    default:
+        return any;
+    }
+}
+
+static void make_job(const struct shape *s, struct ref_job *job)
+{
+    struct chance c = chance_for(1, s->pattern);
+
+    job->disks = s->disks;
+    job->blocks = s->blocks;
+    job->references = s->references;
+    for (unsigned d = 0; d < s->disks; d++)
+        job->slots[d] = s->pattern == THRASH && d == 0 ? 1 : s->slots;
+    for (unsigned b = 0; b < s->blocks; b++)
+        job->disk[b] = (uint8_t)(b % s->disks);
+    for (unsigned i = 0; i < s->references; i++)
+        job->reference[i] = (uint16_t)draw_reference(&c, s, i);
+}
+
+/* ---- The four calls ---- */
+
+static struct {
+    uint8_t ticket[REF_TICKET], sheet[2][REF_SHEET], other[2][REF_SHEET];
+    size_t ticket_length;
+    struct ref_planned planned;
+} job;
+
+static void must(int good, const char *what)
+{
+    if (good)
+        return;
+    fprintf(stderr, "bench: %s\n", what);
+    exit(2);
+}
+
+static unsigned plan(void)
+{
+    uint8_t counts[PLANNER_PLAN_COUNTS];
+
+    return planner_plan(job.ticket, job.ticket_length, job.other[0], REF_SHEET, job.other[1], REF_SHEET, counts, sizeof counts);
+}
+
+static unsigned ref_plan_both(void)
+{
+    struct ref_planned planned;
+
+    return ref_plan(job.ticket, job.ticket_length, job.other[0], REF_SHEET, job.other[1], REF_SHEET, &planned);
+}
+
+/* Checks both sheets. */
+static unsigned check(void)
+{
+    uint8_t counts[PLANNER_CHECK_COUNTS];
+    unsigned number = 0;
+
+    for (unsigned k = 0; k < 2; k++)
+        number |= planner_check(job.ticket, job.ticket_length, job.sheet[k], job.planned.sheet_length[k], counts, sizeof counts);
+    return number;
+}
+
+static unsigned ref_check_both(void)
+{
+    struct ref_counts counts;
+    unsigned number = 0;
+
+    for (unsigned k = 0; k < 2; k++)
+        number |= ref_check(job.ticket, job.ticket_length, job.sheet[k], job.planned.sheet_length[k], &counts);
+    return number;
+}
+
+static unsigned (*const calls[CALLS])(void) = {plan, ref_plan_both, check, ref_check_both};
+
+/* The shape's job, its ticket and its sheets; the library's sheets must be the reference's. */
+static void prepare(const struct shape *s)
+{
+    static struct ref_job made;
+
+    make_job(s, &made);
+    job.ticket_length = ref_write_ticket(&made, job.ticket, sizeof job.ticket);
+    must(ref_plan(job.ticket, job.ticket_length, job.sheet[0], REF_SHEET, job.sheet[1], REF_SHEET, &job.planned) == 0, "a job is refused");
+    must(plan() == 0, "the library refuses a job");
+    for (unsigned k = 0; k < 2; k++)
+        must(memcmp(job.sheet[k], job.other[k], job.planned.sheet_length[k]) == 0, "the sheets differ");
+}
+
+/* ---- Time ---- */
+
+/* Processor time of this program, so that other programs count less. */
+static double nanoseconds(void)
+{
+    struct timespec t;
+
+    clock_gettime(CLOCK_PROCESS_CPUTIME_ID, &t);
+    return 1e9 * (double)t.tv_sec + (double)t.tv_nsec;
+}
+
+static double time_of(enum call call, unsigned times)
+{
+    double start = nanoseconds();
+
+    for (unsigned k = 0; k < times; k++)
+        must(calls[call]() == 0, "a call is refused");
+    return (nanoseconds() - start) / times;
+}
+
+static int compare(const void *a, const void *b)
+{
+    double x = *(const double *)a, y = *(const double *)b;
+
+    return (x > y) - (x < y);
+}
+
+/* Median nanoseconds of each call; checking is one sheet's, the mean of both. */
+static void measure(const struct shape *s, unsigned repeats, double median[CALLS])
+{
+    static double took[CALLS][MOST_REPEATS];
+    unsigned times[CALLS];
+
+    prepare(s);
+    for (int c = 0; c < CALLS; c++)
+        for (times[c] = 1; time_of((enum call)c, times[c]) * times[c] < ENOUGH;)
+            times[c] *= 2;
+    for (unsigned r = 0; r < repeats; r++)
+        for (int c = 0; c < CALLS; c++)
+            took[c][r] = time_of((enum call)c, times[c]) / (c >= CHECK ? 2 : 1);
+    for (int c = 0; c < CALLS; c++) {
+        qsort(took[c], repeats, sizeof(double), compare);
+        median[c] = took[c][repeats / 2];
+    }
+}
+
+/* ---- Tables ---- */
+
+static void print_row(const double t[CALLS])
+{
+    printf(" %.1f | %.1f | %.2f | %.1f | %.1f | %.2f |\n", t[PLAN] / 1e3, t[REF_PLAN] / 1e3, t[PLAN] / t[REF_PLAN], t[CHECK] / 1e3,
+           t[REF_CHECK] / 1e3, t[CHECK] / t[REF_CHECK]);
+    fflush(stdout);
+}
+
+static void print_head(const char *first)
+{
+    printf("| %s | plan, us | reference | ratio | check, us | reference | ratio |\n|---|---|---|---|---|---|---|\n", first);
+}
+
+/* The jobs of full size: 8 disks, 512 blocks, 2,048 references. 1 if a ratio is above what is asked. */
+static int full_size(unsigned repeats)
+{
+    static const unsigned slots[] = {1, 4, 64};
+    double t[CALLS], worst[2] = {0, 0};
+
+    printf("Full size: 8 disks, 512 blocks, 2,048 references.\n\n");
+    print_head("job");
+    for (int p = RANDOM; p <= THRASH; p++) {
+        for (unsigned k = 0; k < 3; k++) {
+            struct shape s = {(enum pattern)p, 8, 512, 2048, slots[k]};
+
+            measure(&s, repeats, t);
+            printf("| %s, %u slot%s |", pattern_name[p], slots[k], slots[k] == 1 ? "" : "s");
+            print_row(t);
+            for (int what = 0; what < 2; what++)
+                if (t[2 * what] / t[2 * what + 1] > worst[what])
+                    worst[what] = t[2 * what] / t[2 * what + 1];
+        }
+    }
+    printf("\nHighest ratios: planning %.2f (at most %.1f asked), checking %.2f (at most %.1f).\n\n", worst[0], most_ratio[0],
+           worst[1], most_ratio[1]);
+    return worst[0] > most_ratio[0] || worst[1] > most_ratio[1];
+}
+
+/* One size grows, the others stay: random references, 4 slots. */
+static void growth(const char *name, size_t which, const unsigned *values, unsigned repeats, FILE *data)
+{
+    double t[CALLS];
+
+    printf("Growing %s.\n\n", name);
+    print_head(name);
+    fprintf(data, "# %s: plan, reference's plan, check, reference's check, in nanoseconds\n", name);
+    for (; *values != 0; values++) {
+        struct shape s = {RANDOM, 8, 512, 2048, 4};
+        unsigned *const size[] = {&s.references, &s.blocks, &s.disks, &s.slots};
+
+        *size[which] = *values;
+        measure(&s, repeats, t);
+        printf("| %u |", *values);
+        print_row(t);
+        fprintf(data, "%u %.0f %.0f %.0f %.0f\n", *values, t[PLAN], t[REF_PLAN], t[CHECK], t[REF_CHECK]);
+    }
+    printf("\n");
+    fprintf(data, "\n\n");
+}
+
+static void all_growth(unsigned repeats, FILE *data)
+{
+    growth("references", 0, (const unsigned[]){16, 32, 64, 128, 256, 512, 1024, 2048, 0}, repeats, data);
+    growth("blocks", 1, (const unsigned[]){8, 16, 32, 64, 128, 256, 512, 0}, repeats, data);
+    growth("disks", 2, (const unsigned[]){1, 2, 3, 4, 5, 6, 7, 8, 0}, repeats, data);
+    growth("slots", 3, (const unsigned[]){1, 2, 4, 8, 16, 32, 64, 0}, repeats, data);
+}
+
+static void run_call(void *call)
+{
+    must(calls[*(const enum call *)call]() == 0, "a call is refused");
+}
+
+/* The deepest stack of one call, on a job of full size. */
+static void stacks(void)
+{
+    static const char *const name[CALLS] = {"planner_plan", "ref_plan", "planner_check", "ref_check"};
+    const struct shape s = {THRASH, 8, 512, 2048, 64};
+
+    prepare(&s);
+    printf("| call | stack, bytes |\n|---|---|\n");
+    for (int c = 0; c < CALLS; c++) {
+        enum call call = (enum call)c;
+
+        printf("| %s | %zu |\n", name[c], stack_of(run_call, &call));
+    }
+}
+
+int main(int argc, char **argv)
+{
+    unsigned repeats = argc > 1 ? (unsigned)strtoul(argv[1], NULL, 10) : 31;
+    FILE *data = fopen(argc > 2 ? argv[2] : "/dev/null", "w");
+    int slow;
+
+    must(repeats > 0 && repeats <= MOST_REPEATS && data != NULL, "usage: bench [REPEATS [DATA]]");
+    slow = full_size(repeats);
+    all_growth(repeats, data);
+    stacks();
+    fclose(data);
+    return slow;
+}
