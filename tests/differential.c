@@ -3,7 +3,9 @@
  * usage: differential [SEED [COUNT [FIRST]]]
  * Draws COUNT jobs from number FIRST on (default 0) and stops at the first disagreement. Every
  * job's draws depend on the seed and its own number only, so "SEED 1 FIRST" replays one job.
- * Exit 0 only if all agree and, in a run from 0 on, every number 1 to 18 was met. */
+ * Exit 0 only if all agree and, in a run from 0 on, each call met every number that it can return
+ * and filled counts slices of every length from 0 to 45. */
+#define _DEFAULT_SOURCE        /* for MAP_ANONYMOUS */
 #include "draw.h"
 #include <planner.h>
 
@@ -12,22 +14,29 @@
 #include <stdio.h>
 #include <stdlib.h>
 #include <string.h>
+#include <sys/mman.h>
 
-enum { GUARD = 24, COUNTS_MOST = 45, NUMBERS = 19 };
+enum { GUARD = 24, COUNTS_MOST = 45, NUMBERS = 19, SLICES = 4 };
+enum { ARENA = 1 << 16, EDGE = 1 << 12 };   /* bytes for one slice; bytes after it that nobody may touch */
+enum call { PLAN, CHECK };
+
+static const char *const call_name[] = {"planner_plan", "planner_check"};
 
 static struct {
     uint64_t seed, job;
     struct chance chance;
-    unsigned long met[NUMBERS], marks[2], passes;
+    unsigned long met[2][NUMBERS], lengths[2][COUNTS_MOST + 1], marks[2], passes;   /* by call */
 } run;
 
 /* ---- Lent slices ---- */
 
-/* The library gets real + GUARD, amid guard bytes; the reference gets want, exactly len bytes. */
+/* The library gets real + GUARD: guard bytes stand before it, and after it either guard bytes or
+ * the edge of memory that may be touched. The reference gets want, exactly len bytes. */
 struct lent {
     const char *name;
-    size_t len;
+    size_t len, whole;         /* whole: with the guards */
     uint8_t *real, *before, *want;
+    bool null;                 /* an empty slice lent as a null pointer */
 };
 
 static uint8_t *get_bytes(size_t len)
@@ -39,23 +48,47 @@ static uint8_t *get_bytes(size_t len)
     return bytes;
 }
 
-/* A slice of random bytes, or with the given content, amid random guards. */
-static struct lent lend(const char *name, const uint8_t *content, size_t len)
+/* The end of the memory for slice k of a call; a read or write past it stops the program. */
+static uint8_t *edge_of(unsigned k)
 {
-    size_t whole = len + 2 * GUARD;
-    struct lent s = {name, len, get_bytes(whole), get_bytes(whole), get_bytes(len > 0 ? len : 1)};
+    static uint8_t *edge[SLICES];
+
+    if (edge[k] == NULL) {
+        uint8_t *start = mmap(NULL, ARENA + EDGE, PROT_READ | PROT_WRITE,
+                              MAP_PRIVATE | MAP_ANONYMOUS, -1, 0);
+
+        if (start == MAP_FAILED || mprotect(start + ARENA, EDGE, PROT_NONE) != 0)
+            exit(2);
+        edge[k] = start + ARENA;
+    }
+    return edge[k];
+}
+
+/* Slice k of a call: random bytes, or the given content, with random guards. */
+static struct lent lend(unsigned k, const char *name, const uint8_t *content, size_t len)
+{
+    bool at_edge = one_in(&run.chance, 2);
+    size_t whole = GUARD + len + (at_edge ? 0 : GUARD);
+    struct lent s = {.name = name, .len = len, .whole = whole, .real = edge_of(k) - whole,
+                     .before = get_bytes(whole), .want = get_bytes(len > 0 ? len : 1),
+                     .null = len == 0 && one_in(&run.chance, 2)};
 
     fill(&run.chance, s.real, whole);
-    if (content != NULL)
+    if (len > 0 && content != NULL)
         memcpy(s.real + GUARD, content, len);
     memcpy(s.before, s.real, whole);
     memcpy(s.want, s.real + GUARD, len);
     return s;
 }
 
+/* The pointer that the library gets. */
+static uint8_t *lent_at(const struct lent *s)
+{
+    return s->null ? NULL : s->real + GUARD;
+}
+
 static void give_back(struct lent *s)
 {
-    free(s->real);
     free(s->before);
     free(s->want);
 }
@@ -71,9 +104,9 @@ static void print_hex(const char *name, const struct lent *s)
 }
 
 /* Says what was asked, in a way that can be replayed, and ends the run. */
-static void fail(const char *call, const struct lent *slices, unsigned how_many)
+static void fail(enum call call, const struct lent *slices, unsigned how_many)
 {
-    printf("  in %s, seed %" PRIu64 ", job %" PRIu64 "\n", call, run.seed, run.job);
+    printf("  in %s, seed %" PRIu64 ", job %" PRIu64 "\n", call_name[call], run.seed, run.job);
     for (unsigned k = 0; k < how_many; k++) {
         if (strcmp(slices[k].name, "ticket") == 0 || strcmp(slices[k].name, "sheet") == 0)
             print_hex(slices[k].name, &slices[k]);
@@ -96,7 +129,7 @@ static void stopped(int cause)
 /* Every lent byte and every guard byte must be as the reference left it. */
 static bool slice_agrees(const struct lent *s)
 {
-    for (size_t k = 0; k < s->len + 2 * GUARD; k++) {
+    for (size_t k = 0; k < s->whole; k++) {
         bool inside = k >= GUARD && k < GUARD + s->len;
         uint8_t want = inside ? s->want[k - GUARD] : s->before[k];
 
@@ -109,10 +142,13 @@ static bool slice_agrees(const struct lent *s)
     return true;
 }
 
-static void compare(const char *call, uint32_t have, unsigned want, struct lent *slices,
+/* The last slice is the counts. */
+static void compare(enum call call, uint32_t have, unsigned want, struct lent *slices,
                     unsigned how_many)
 {
-    run.met[want]++;
+    run.met[call][want]++;
+    if (want == 0)
+        run.lengths[call][slices[how_many - 1].len]++;
     if (have != want) {
         printf("DISAGREE: number: library %" PRIu32 ", reference %u\n", have, want);
         fail(call, slices, how_many);
@@ -139,19 +175,19 @@ static void try_plan(struct bytes ticket, size_t ns, size_t np)
     unsigned want;
     uint32_t have;
 
-    s[0] = lend("ticket", ticket.at, ticket.len);
-    s[1] = lend("short sheet", NULL, ns);
-    s[2] = lend("sparing sheet", NULL, np);
-    s[3] = lend("counts", NULL, below(&run.chance, COUNTS_MOST + 1));
+    s[0] = lend(0, "ticket", ticket.at, ticket.len);
+    s[1] = lend(1, "short sheet", NULL, ns);
+    s[2] = lend(2, "sparing sheet", NULL, np);
+    s[3] = lend(3, "counts", NULL, below(&run.chance, COUNTS_MOST + 1));
     want = ref_plan(s[0].want, ticket.len, s[1].want, ns, s[2].want, np, &planned);
-    have = planner_plan(s[0].real + GUARD, ticket.len, s[1].real + GUARD, ns,
-                        s[2].real + GUARD, np, s[3].real + GUARD, s[3].len);
+    have = planner_plan(lent_at(&s[0]), ticket.len, lent_at(&s[1]), ns, lent_at(&s[2]), np,
+                        lent_at(&s[3]), s[3].len);
     if (want == 0) {
         ref_planned_numbers(&planned, numbers);
         ref_fill_counts(numbers, REF_PLANNED_NUMBERS, s[3].want, s[3].len);
         run.marks[planned.mark]++;
     }
-    compare("planner_plan", have, want, s, 4);
+    compare(PLAN, have, want, s, 4);
 }
 
 /* The counts of both plans for a ticket, "whether or not a planning call has room". */
@@ -194,22 +230,22 @@ static void try_check(struct bytes ticket, struct bytes sheet)
     unsigned want;
     uint32_t have;
 
-    s[0] = lend("ticket", ticket.at, ticket.len);
-    s[1] = lend("sheet", sheet.at, sheet.len);
-    s[2] = lend("counts", NULL, below(&run.chance, COUNTS_MOST + 1));
+    s[0] = lend(0, "ticket", ticket.at, ticket.len);
+    s[1] = lend(1, "sheet", sheet.at, sheet.len);
+    s[2] = lend(2, "counts", NULL, below(&run.chance, COUNTS_MOST + 1));
     want = ref_check(s[0].want, ticket.len, s[1].want, sheet.len, &counts);
-    have = planner_check(s[0].real + GUARD, ticket.len, s[1].real + GUARD, sheet.len,
-                         s[2].real + GUARD, s[2].len);
+    have = planner_check(lent_at(&s[0]), ticket.len, lent_at(&s[1]), sheet.len, lent_at(&s[2]),
+                         s[2].len);
     if (want == 0) {
         ref_checked_numbers(&counts, numbers);
         ref_fill_counts(numbers, REF_CHECKED_NUMBERS, s[2].want, s[2].len);
         run.passes++;
         if (!unbeaten(ticket, &counts)) {
             printf("DISAGREE: a sheet that passes beats a plan (demand 3)\n");
-            fail("planner_check", s, 3);
+            fail(CHECK, s, 3);
         }
     }
-    compare("planner_check", have, want, s, 3);
+    compare(CHECK, have, want, s, 3);
 }
 
 /* ---- One job ---- */
@@ -280,27 +316,49 @@ static void try_job(uint64_t number)
     try_check(t, (struct bytes){sheets[1], planned.sheet_length[1]});
 }
 
+/* Planning returns 0 to 8, 17 and 18; the check 0 to 16. */
+static bool can_return(enum call call, unsigned number)
+{
+    return call == CHECK ? number <= 16 : number <= 8 || number >= 17;
+}
+
+/* Prints what was met; false if something that should be was not. */
+static bool all_met(enum call call)
+{
+    bool all = true;
+
+    printf("  %s:", call_name[call]);
+    for (unsigned k = 0; k < NUMBERS; k++) {
+        if (can_return(call, k))
+            printf(" %u:%lu", k, run.met[call][k]);
+        all = all && (run.met[call][k] > 0) == can_return(call, k);
+    }
+    printf("\n");
+    for (unsigned k = 0; k <= COUNTS_MOST; k++)
+        all = all && run.lengths[call][k] > 0;
+    return all;
+}
+
 int main(int argc, char **argv)
 {
     uint64_t count = argc > 2 ? strtoull(argv[2], NULL, 10) : 20000;
     uint64_t first = argc > 3 ? strtoull(argv[3], NULL, 10) : 0;
-    bool all_met = true;
+    bool all;
 
     run.seed = argc > 1 ? strtoull(argv[1], NULL, 10) : 1;
     signal(SIGSEGV, stopped);
+    signal(SIGBUS, stopped);
     signal(SIGABRT, stopped);
     signal(SIGILL, stopped);
     signal(SIGINT, stopped);
     for (uint64_t k = 0; k < count; k++)
         try_job(first + k);
-    printf("%" PRIu64 " jobs agree (seed %" PRIu64 "); numbers met:\n ", count, run.seed);
-    for (unsigned k = 0; k < NUMBERS; k++) {
-        printf(" %u:%lu", k, run.met[k]);
-        all_met = all_met && run.met[k] > 0;
-    }
-    printf("\n  plans marked short %lu, sparing %lu; sheets passed %lu\n", run.marks[REF_P_MIN],
+    printf("%" PRIu64 " jobs agree (seed %" PRIu64 "); numbers met:\n", count, run.seed);
+    all = all_met(PLAN);
+    all = all_met(CHECK) && all;
+    printf("  plans marked short %lu, sparing %lu; sheets passed %lu\n", run.marks[REF_P_MIN],
            run.marks[REF_P_CON], run.passes);
-    if (!all_met && first == 0)
-        printf("FAIL: a number was never met\n");
-    return all_met || first != 0 ? 0 : 1;
+    if (!all && first == 0)
+        printf("FAIL: a number, or a length of the counts slice, was never met\n");
+    return all || first != 0 ? 0 : 1;
 }

@@ -1,0 +1,78 @@
+# faults.sh - libraries with a fault, each of which the differential test must catch.
+#
+# usage: sh faults.sh BUILD     (BUILD has differential.o, draw.o, chance.o and reference.o)
+# A library here is standin.c over reference.c, both changed by a sed script, in BUILD/fault.
+cd "$(dirname "$0")" || exit 2
+cc=${CC:-cc}
+build=$1
+dir=$build/fault
+missed=0
+tried=0
+
+# build SCRIPT - the differential test, linked with the changed library.
+build() {
+    rm -rf "$dir" && mkdir -p "$dir" || exit 2
+    sed -E "$1" reference/reference.c >"$dir/reference.c"
+    sed -E "$1" standin.c >"$dir/standin.c"
+    $cc -O1 -std=c11 "-I$dir" -Ireference -I../include -c "$dir/standin.c" -o "$dir/standin.o" &&
+        $cc "$build/differential.o" "$build/draw.o" "$build/chance.o" "${2:-$build/reference.o}" \
+            "$dir/standin.o" -o "$dir/differential"
+}
+
+# verdict NAME WORDS - the test must fail, and say these words.
+verdict() {
+    timeout 60 "$dir/differential" 1 2000 >"$dir/report" 2>&1
+    if [ $? -ne 1 ] || ! grep -q "$2" "$dir/report"; then
+        echo "MISSED  $1"
+        missed=$((missed + 1))
+    fi
+}
+
+# fault NAME WORDS SCRIPT
+fault() {
+    tried=$((tried + 1))
+    if ! build "$3" || { cmp -s reference/reference.c "$dir/reference.c" && cmp -s standin.c "$dir/standin.c"; }; then
+        echo "BROKEN  $1"
+        missed=$((missed + 1))
+    else
+        verdict "$1" "$2"
+    fi
+}
+
+# Without a fault it agrees.
+build '' && "$dir/differential" 1 200 >"$dir/report" || { cat "$dir/report"; echo "a library without a fault is not passed"; exit 1; }
+
+fault '14 not tested' 'reference 14' 's/return 14;/return 0;/'
+fault 'unfinished sheets pass' 'number: library 0, reference 15' 's/return 15;/return 0;/'
+fault 'lowest number among several nevers' 'DISAGREE: s' 's/(distance\[b\] )>=( l->distance\[v->min_block)/\1>\2/'
+fault 'P-CON never waits' 'DISAGREE' 's/rule == REF_P_CON && waits/false \&\& waits/'
+fault 'the mark of equal rounds' 'DISAGREE: counts' 's/(rounds )<=( counts\[REF_P_MIN)/\1<\2/'
+fault '18 tested before 17' 'number: library 18, reference 17' \
+    's/p.sheet_length\[k\] > room\[k\]/p.sheet_length[1 - k] > room[1 - k]/;s/return 17 \+ k/return 18 - k/'
+fault 'exact room refused' 'number: library 17, reference 0' 's/p.sheet_length\[k\] > room/p.sheet_length[k] >= room/'
+fault 'short sheet written although 18' 'DISAGREE: short sheet' \
+    's/^            return 17 \+ k;/&\n        else ref_write_sheet(schedule[k], p.counts[k].rounds, job.disks, buffer[k], room[k]);/'
+fault 'a byte past the sheet changed' 'DISAGREE: s' \
+    '/^size_t ref_write_sheet/,/^}/s/memset\(buf, 0, len\)/memset(buf, 0, len < room ? len + 1 : len)/'
+fault 'a byte past the lent buffer changed' '(a guard)\|STOPPED' \
+    '/^size_t ref_write_sheet/,/^}/s/memset\(buf, 0, len\)/memset(buf, 0, len == room ? len + 1 : len)/'
+fault 'a byte before the counts changed' '(a guard)' '/^uint32_t planner/,/^}/s/^    return number;/    if (counts_length > 0) counts[-1] ^= 1;\n&/'
+fault 'a byte past the ticket read' 'STOPPED' \
+    's/^(    struct reader r = \{ticket, n, 0\});/\1;\n    if (n > 0 \&\& ((const volatile uint8_t *)ticket)[n] == 255) job->disks = 1;/'
+fault 'a null counts slice read' 'STOPPED' \
+    '/^uint32_t planner/,/^}/s/^    return number;/    if (counts == NULL \&\& *(volatile uint8_t *)counts == 0) return 1;\n&/'
+fault 'the ticket changed' 'DISAGREE: ticket' '/^uint32_t planner/,/^}/s/^    return number;/    if (ticket_length > 0) ((uint8_t *)ticket)[0] ^= 1;\n&/'
+fault 'counts written by a refusal' 'DISAGREE: counts' 's/if \(number == 0\)$/if (number != 99)/'
+fault 'a number cut in the middle left out' 'DISAGREE: counts' 's/k < len && k < 2/k < len - len % 2 \&\& k < 2/'
+fault 'counts past the numbers zeroed' 'DISAGREE: counts' \
+    's/^        ref_fill_counts\(numbers, REF_(.*)_NUMBERS, .*/&\n    for (size_t k = 2 * REF_\1_NUMBERS; number == 0 \&\& k < counts_length; k++)\n        counts[k] = 0;/'
+
+# Demand 3: with the same wrong plan on both sides they agree, and a sheet beats it.
+tried=$((tried + 1))
+demand='s/^        survey\(.*/&\nfor (unsigned d = 0; d < job->disks; d++) if (view[d].u != REF_NONE \&\& l.distance[view[d].u] != next_read) view[d].u = REF_NONE;/'
+rm -rf "$dir.both" && mkdir -p "$dir.both" && sed -E "$demand" reference/reference.c >"$dir.both/reference.c" &&
+    $cc -O1 -std=c11 -Ireference -c "$dir.both/reference.c" -o "$dir.both/reference.o" && build "$demand" "$dir.both/reference.o" || exit 2
+verdict 'demand-only fetching on both sides' 'beats a plan (demand 3)'
+
+echo "$tried faults, $missed not caught"
+[ "$missed" -eq 0 ]
