@@ -1,0 +1,77 @@
+/* seeds.c - the vectors of tests/vectors as inputs of the fuzz target.
+ *
+ * usage: seeds FOLDER FILE...
+ * Each vector gives one input: its ticket, and its sheet; a plan has the sheets that it ends in, one input each. */
+#include "input.h"
+
+#include <stdio.h>
+#include <stdlib.h>
+#include <string.h>
+
+enum { LINE = 400000 };
+
+static unsigned written;
+
+/* Puts hexadecimal text, "-" for no bytes, at the end of an input; gives the new size. */
+static size_t put_hex(uint8_t *data, size_t size, const char *text)
+{
+    unsigned value;
+
+    for (; sscanf(text, "%2x", &value) == 1 && strcmp(text, "-") != 0; text += 2)
+        data[size++] = (uint8_t)value;
+    return size;
+}
+
+static void write_input(const char *folder, const char *ticket, const char *sheet)
+{
+    static uint8_t data[LINE];
+    size_t ticket_end = put_hex(data, HEAD, ticket), size = put_hex(data, ticket_end, sheet);
+    char path[4096];
+    FILE *file;
+
+    data[0] = (uint8_t)written;
+    data[1] = (uint8_t)(written / 3);
+    data[2] = (uint8_t)((ticket_end - HEAD) >> 8);
+    data[3] = (uint8_t)(ticket_end - HEAD);
+    snprintf(path, sizeof path, "%s/%03u", folder, written++);
+    file = fopen(path, "wb");
+    if (file == NULL || fwrite(data, 1, size, file) != size || fclose(file) != 0)
+        exit(2);
+}
+
+/* plan TICKET .. | SHEET | SHEET, plan TICKET .. = NUMBER, or check TICKET SHEET .. */
+static void take_line(const char *folder, char *line)
+{
+    char *call = strtok(line, " \n"), *ticket = strtok(NULL, " \n"), *sheet = strtok(NULL, " \n"), *word, *last[4] = {"-", "-", "-", "-"};
+
+    if (call == NULL || call[0] == '#' || ticket == NULL || sheet == NULL)
+        return;
+    if (strcmp(call, "check") == 0) {
+        write_input(folder, ticket, sheet);
+        return;
+    }
+    while ((word = strtok(NULL, " \n")) != NULL) {
+        memmove(last, last + 1, 3 * sizeof last[0]);
+        last[3] = word;
+    }
+    write_input(folder, ticket, strcmp(last[2], "|") == 0 ? last[3] : "-");
+    if (strcmp(last[2], "|") == 0)
+        write_input(folder, ticket, last[1]);
+}
+
+int main(int argc, char **argv)
+{
+    static char line[LINE];
+
+    for (int k = 2; k < argc; k++) {
+        FILE *file = fopen(argv[k], "r");
+
+        if (file == NULL)
+            return 2;
+        while (fgets(line, sizeof line, file) != NULL)
+            take_line(argv[1], line);
+        fclose(file);
+    }
+    printf("%u inputs\n", written);
+    return written == 0;
+}
