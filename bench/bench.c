@@ -21,9 +21,9 @@ static const double most_ratio[2] = {0.5, 1.0};   /* planning, checking */
 
 /* ---- Jobs ---- */
 
-enum pattern { RANDOM, CYCLIC, THRASH };
+enum pattern { RANDOM, CYCLIC, THRASH, CROWDED };
 
-static const char *const pattern_name[] = {"random", "cyclic", "thrash"};
+static const char *const pattern_name[] = {"random", "cyclic", "thrash", "crowded"};
 
 struct shape {
     enum pattern pattern;
@@ -31,7 +31,8 @@ struct shape {
 };
 
 /* Blocks lie on the disks in turn. Random: any block. Cyclic: all blocks, over and over. Thrash: disk 0 has one slot, and
- * every second reference is the next of its blocks; the others are any block of the other disks. */
+ * every second reference is the next of its blocks; the others are any block of the other disks. Crowded: any block, and all
+ * but one in eight lie on disk 0. */
 static unsigned draw_reference(struct chance *c, const struct shape *s, unsigned i)
 {
     unsigned any = below(c, s->blocks), on_first = (s->blocks + s->disks - 1) / s->disks;
@@ -48,6 +49,13 @@ static unsigned draw_reference(struct chance *c, const struct shape *s, unsigned
     }
 }
 
+static unsigned disk_of(const struct shape *s, unsigned b)
+{
+    if (s->pattern != CROWDED)
+        return b % s->disks;
+    return b % 8 != 0 ? 0 : b / 8 % s->disks;
+}
+
 static void make_job(const struct shape *s, struct ref_job *job)
 {
     struct chance c = chance_for(1, s->pattern);
@@ -58,7 +66,7 @@ static void make_job(const struct shape *s, struct ref_job *job)
     for (unsigned d = 0; d < s->disks; d++)
         job->slots[d] = s->pattern == THRASH && d == 0 ? 1 : s->slots;
     for (unsigned b = 0; b < s->blocks; b++)
-        job->disk[b] = (uint8_t)(b % s->disks);
+        job->disk[b] = (uint8_t)disk_of(s, b);
     for (unsigned i = 0; i < s->references; i++)
         job->reference[i] = (uint16_t)draw_reference(&c, s, i);
 }
@@ -197,7 +205,7 @@ static int full_size(unsigned repeats)
 
     printf("Full size: 8 disks, 512 blocks, 2,048 references.\n\n");
     print_head("job");
-    for (int p = RANDOM; p <= THRASH; p++) {
+    for (int p = RANDOM; p <= CROWDED; p++) {
         for (unsigned k = 0; k < 3; k++) {
             struct shape s = {(enum pattern)p, 8, 512, 2048, slots[k]};
 

@@ -61,15 +61,18 @@ fault 'a byte past the ticket read' 'STOPPED' \
     's/^(    struct reader r = \{ticket, n, 0\});/\1;\n    if (n > 0 \&\& ((const volatile uint8_t *)ticket)[n] == 255) job->disks = 1;/'
 fault 'a null counts slice read' 'STOPPED' \
     '/^uint32_t planner/,/^}/s/^    return number;/    if (counts == NULL \&\& *(volatile uint8_t *)counts == 0) return 1;\n&/'
-fault 'the ticket changed' 'DISAGREE: ticket' '/^uint32_t planner/,/^}/s/^    return number;/    if (ticket_length > 0) ((uint8_t *)ticket)[0] ^= 1;\n&/'
+fault 'the ticket changed' 'DISAGREE: ticket' \
+    '/^uint32_t planner/,/^}/s/^    return number;/    if (ticket_length > 0) ((uint8_t *)ticket)[0] ^= 1;\n&/'
 fault 'counts written by a refusal' 'DISAGREE: counts' 's/if \(number == 0\)$/if (number != 99)/'
 fault 'a number cut in the middle left out' 'DISAGREE: counts' 's/k < len && k < 2/k < len - len % 2 \&\& k < 2/'
 fault 'counts past the numbers zeroed' 'DISAGREE: counts' \
-    's/^        ref_fill_counts\(numbers, REF_(.*)_NUMBERS, .*/&\n    for (size_t k = 2 * REF_\1_NUMBERS; number == 0 \&\& k < counts_length; k++)\n        counts[k] = 0;/'
+    's/^        ref_fill_counts\(numbers, REF_(.*)_NUMBERS, .*/&\n    for (size_t k = 2 * REF_\1_NUMBERS; number == 0 \&\& k < counts_length; k++)'\
+'\n        counts[k] = 0;/'
 
 # Demand 3: with the same wrong plan on both sides they agree, and a sheet beats it.
 tried=$((tried + 1))
-demand='s/^        survey\(.*/&\nfor (unsigned d = 0; d < job->disks; d++) if (view[d].u != REF_NONE \&\& l.distance[view[d].u] != next_read) view[d].u = REF_NONE;/'
+on_demand='if (view[d].u != REF_NONE \&\& l.distance[view[d].u] != next_read) view[d].u = REF_NONE;'
+demand="s/^        survey\\(.*/&\\nfor (unsigned d = 0; d < job->disks; d++) $on_demand/"
 rm -rf "$dir.both" && mkdir -p "$dir.both" && sed -E "$demand" reference/reference.c >"$dir.both/reference.c" &&
     $cc -O1 -std=c11 -Ireference -c "$dir.both/reference.c" -o "$dir.both/reference.o" && build "$demand" "$dir.both/reference.o" || exit 2
 verdict 'demand-only fetching on both sides' 'beats a plan (demand 3)'
