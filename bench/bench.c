@@ -1,8 +1,8 @@
 /* bench.c - what planning and checking cost, beside the reference.
  *
  * usage: bench [REPEATS [DATA]]
- * Times the library and the reference in turn on the same bytes, REPEATS times (default 31), and prints medians as tables in
- * markdown. Writes the figures of the growing jobs to the file DATA. Exit 1 if a ratio is above what is asked of full-size
+ * Times the library and the reference in turn on the same bytes, REPEATS times (default 31), and prints medians of times and of
+ * ratios as tables in markdown. Writes the figures of the growing jobs to the file DATA. Exit 1 if a ratio is above what is asked of full-size
  * jobs: planning half of the reference's time, checking all of it. */
 #include "../tests/reference/chance.h"
 #include "../tests/reference/reference.h"
@@ -21,9 +21,9 @@ static const double most_ratio[2] = {0.5, 1.0};   /* planning, checking */
 
 /* ---- Jobs ---- */
 
-enum pattern { RANDOM, CYCLIC, THRASH, CROWDED };
+enum pattern { RANDOM, CYCLIC, THRASH, CROWDED, SAME };
 
-static const char *const pattern_name[] = {"random", "cyclic", "thrash", "crowded"};
+static const char *const pattern_name[] = {"random", "cyclic", "thrash", "crowded", "same"};
 
 struct shape {
     enum pattern pattern;
@@ -32,7 +32,7 @@ struct shape {
 
 /* Blocks lie on the disks in turn. Random: any block. Cyclic: all blocks, over and over. Thrash: disk 0 has one slot, and
  * every second reference is the next of its blocks; the others are any block of the other disks. Crowded: any block, and all
- * but one in eight lie on disk 0. */
+ * but one in eight lie on disk 0. Same: block 0 each time. */
 static unsigned draw_reference(struct chance *c, const struct shape *s, unsigned i)
 {
     unsigned any = below(c, s->blocks), on_first = (s->blocks + s->disks - 1) / s->disks;
@@ -44,6 +44,8 @@ static unsigned draw_reference(struct chance *c, const struct shape *s, unsigned
         if (i % 2 == 0)
             return i / 2 % on_first * s->disks;
         return any % s->disks == 0 ? any + 1 : any;
+    case SAME:
+        return 0;
     default:
         return any;
     }
@@ -164,11 +166,22 @@ static int compare(const void *a, const void *b)
     return (x > y) - (x < y);
 }
 
-/* Median nanoseconds of each call; checking is one sheet's, the mean of both. */
-static void measure(const struct shape *s, unsigned repeats, double median[CALLS])
+static double median_of(double *values, unsigned how_many)
 {
-    static double took[CALLS][MOST_REPEATS];
+    qsort(values, how_many, sizeof values[0], compare);
+    return values[how_many / 2];
+}
+
+struct result {
+    double took[CALLS];        /* median nanoseconds; checking is one sheet's, the mean of both */
+    double ratio[2];           /* planning, checking: median of library / reference, each pair measured one after the other */
+};
+
+static struct result measure(const struct shape *s, unsigned repeats)
+{
+    static double took[CALLS][MOST_REPEATS], ratio[2][MOST_REPEATS];
     unsigned times[CALLS];
+    struct result result;
 
     prepare(s);
     for (int c = 0; c < CALLS; c++)
@@ -177,18 +190,22 @@ static void measure(const struct shape *s, unsigned repeats, double median[CALLS
     for (unsigned r = 0; r < repeats; r++)
         for (int c = 0; c < CALLS; c++)
             took[c][r] = time_of((enum call)c, times[c]) / (c >= CHECK ? 2 : 1);
-    for (int c = 0; c < CALLS; c++) {
-        qsort(took[c], repeats, sizeof(double), compare);
-        median[c] = took[c][repeats / 2];
+    for (int what = 0; what < 2; what++) {
+        for (unsigned r = 0; r < repeats; r++)
+            ratio[what][r] = took[2 * what][r] / took[2 * what + 1][r];
+        result.ratio[what] = median_of(ratio[what], repeats);
     }
+    for (int c = 0; c < CALLS; c++)
+        result.took[c] = median_of(took[c], repeats);
+    return result;
 }
 
 /* ---- Tables ---- */
 
-static void print_row(const double t[CALLS])
+static void print_row(const struct result *r)
 {
-    printf(" %.1f | %.1f | %.2f | %.1f | %.1f | %.2f |\n", t[PLAN] / 1e3, t[REF_PLAN] / 1e3, t[PLAN] / t[REF_PLAN], t[CHECK] / 1e3,
-           t[REF_CHECK] / 1e3, t[CHECK] / t[REF_CHECK]);
+    printf(" %.1f | %.1f | %.2f | %.1f | %.1f | %.2f |\n", r->took[PLAN] / 1e3, r->took[REF_PLAN] / 1e3, r->ratio[0], r->took[CHECK] / 1e3,
+           r->took[REF_CHECK] / 1e3, r->ratio[1]);
     fflush(stdout);
 }
 
@@ -201,20 +218,20 @@ static void print_head(const char *first)
 static int full_size(unsigned repeats)
 {
     static const unsigned slots[] = {1, 4, 64};
-    double t[CALLS], worst[2] = {0, 0};
+    double worst[2] = {0, 0};
 
     printf("Full size: 8 disks, 512 blocks, 2,048 references.\n\n");
     print_head("job");
     for (int p = RANDOM; p <= CROWDED; p++) {
         for (unsigned k = 0; k < 3; k++) {
             struct shape s = {(enum pattern)p, 8, 512, 2048, slots[k]};
+            struct result r = measure(&s, repeats);
 
-            measure(&s, repeats, t);
             printf("| %s, %u slot%s |", pattern_name[p], slots[k], slots[k] == 1 ? "" : "s");
-            print_row(t);
+            print_row(&r);
             for (int what = 0; what < 2; what++)
-                if (t[2 * what] / t[2 * what + 1] > worst[what])
-                    worst[what] = t[2 * what] / t[2 * what + 1];
+                if (r.ratio[what] > worst[what])
+                    worst[what] = r.ratio[what];
         }
     }
     printf("\nHighest ratios: planning %.2f (at most %.1f asked), checking %.2f (at most %.1f).\n\n", worst[0], most_ratio[0],
@@ -222,11 +239,25 @@ static int full_size(unsigned repeats)
     return worst[0] > most_ratio[0] || worst[1] > most_ratio[1];
 }
 
+/* Jobs that take a round or a few: the ticket and the tables cost more than the plan. Nothing is asked of them. */
+static void few_rounds(unsigned repeats)
+{
+    static const struct shape shapes[] = {{SAME, 8, 512, 2048, 4}, {SAME, 1, 1, 2048, 1}, {RANDOM, 8, 512, 16, 4}, {SAME, 1, 1, 0, 1}};
+    printf("Few rounds.\n\n");
+    print_head("job: disks, blocks, references, slots");
+    for (unsigned k = 0; k < sizeof shapes / sizeof shapes[0]; k++) {
+        const struct shape *s = &shapes[k];
+        struct result r = measure(s, repeats);
+
+        printf("| %s: %u, %u, %u, %u |", pattern_name[s->pattern], s->disks, s->blocks, s->references, s->slots);
+        print_row(&r);
+    }
+    printf("\n");
+}
+
 /* One size grows, the others stay: random references, 4 slots. */
 static void growth(const char *name, size_t which, const unsigned *values, unsigned repeats, FILE *data)
 {
-    double t[CALLS];
-
     printf("Growing %s.\n\n", name);
     print_head(name);
     fprintf(data, "# %s: plan, reference's plan, check, reference's check, in nanoseconds\n", name);
@@ -234,11 +265,13 @@ static void growth(const char *name, size_t which, const unsigned *values, unsig
         struct shape s = {RANDOM, 8, 512, 2048, 4};
         unsigned *const size[] = {&s.references, &s.blocks, &s.disks, &s.slots};
 
+        struct result r;
+
         *size[which] = *values;
-        measure(&s, repeats, t);
+        r = measure(&s, repeats);
         printf("| %u |", *values);
-        print_row(t);
-        fprintf(data, "%u %.0f %.0f %.0f %.0f\n", *values, t[PLAN], t[REF_PLAN], t[CHECK], t[REF_CHECK]);
+        print_row(&r);
+        fprintf(data, "%u %.0f %.0f %.0f %.0f\n", *values, r.took[PLAN], r.took[REF_PLAN], r.took[CHECK], r.took[REF_CHECK]);
     }
     printf("\n");
     fprintf(data, "\n\n");
@@ -280,6 +313,7 @@ int main(int argc, char **argv)
 
     must(repeats > 0 && repeats <= MOST_REPEATS && data != NULL, "usage: bench [REPEATS [DATA]]");
     slow = full_size(repeats);
+    few_rounds(repeats);
     all_growth(repeats, data);
     stacks();
     fclose(data);
