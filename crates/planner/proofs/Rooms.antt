@@ -25,8 +25,9 @@ use Rattle.ticket.specs.Meaning.{ticketRead}
 use Rattle.ticket.specs.declared.Ticket.{Ticket}
 use Rattle.ticket.proofs.Laws.{read-given, read-refused}
 use Rattle.acting.specs.Acting.{ruleOf}
-use Rattle.planning.specs.Planning.{totalsOf}
+use Rattle.planning.specs.Planning.{totalsOf, plansOf}
 use Rattle.planning.specs.declared.Totals.{Totals}
+use Rattle.planning.specs.declared.Plans.{Plans}
 use mir.Val.{Fits as Machine}
 use mir.Syntax.{w64}
 use Rattle.planner.specs.Planner.{countsAs, totalCounts, markAs, pickMark, plannedAs, outcomeOf, Kept}
@@ -141,6 +142,15 @@ module _ (t : List ℕ) (read : Ticket) (e : read ≡ ticketRead t) where
 
     pub with-rooms : (a b : ℕ) → (p : Answered) × (planning t a b ≡ withRooms a b p)
     with-rooms a b = (plannedOf (theSchedule false) (theSchedule true), plannings a b)
+
+    -- both plans, from what planning's run gives
+    pub run-short : (p : Plans) → p ≡ plansOf (jobOf (read .job)) → p .short ≡ totalsOf (theSchedule false)
+    unfolding plansOf
+    run-short p q = ap (λ (x : Plans). x .short) q
+
+    pub run-sparing : (p : Plans) → p ≡ plansOf (jobOf (read .job)) → p .sparing ≡ totalsOf (theSchedule true)
+    unfolding plansOf
+    run-sparing p q = ap (λ (x : Plans). x .sparing) q
 
     -- a sheet's bytes, from its bits
     sheet-long : (spares : Bool) → length (sheetOf (theSchedule spares)) ≤ 40962

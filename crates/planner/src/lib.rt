@@ -95,13 +95,14 @@ pub fn plan(ticket: &[u8], short: &mut [u8], sparing: &mut [u8]) -> Planned
         return refusal(read.number);
     }
     let mut first = [0u8; 40968];
-    let a = planning::run(read.job, false, &mut first);
+    let mut second = [0u8; 40968];
+    let plans = planning::run(read.job, &mut first, &mut second);
+    let a = plans.short;
+    let b = plans.sparing;
     let m = (a.bits + 7) / 8;
     if short.len() < m {
         return refusal(17);
     }
-    let mut second = [0u8; 40968];
-    let b = planning::run(read.job, true, &mut second);
     let n = (b.bits + 7) / 8;
     if sparing.len() < n {
         return refusal(18);

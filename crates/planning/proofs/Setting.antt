@@ -1,6 +1,6 @@
 -- The tables of a job by value, and the sheet with its header. Assumes nothing.
 use mathlib.Core.Path.{_≡_, sym, ap, _∙_, subst}
-use mathlib.Core.Bool.{Bool}
+use mathlib.Core.Bool.{Bool, true, false}
 use mathlib.Core.List.{List, _++_, map}
 use Prim.Native.Nat.{ℕ, _≤_, _<_}
 use native.Mathlib.Omega.{arith}
@@ -22,8 +22,9 @@ use Rattle.lookup.specs.Lookup.{Below, firsts, agains, refDisks}
 use Rattle.choosing.specs.Right.{Right}
 use Rattle.acting.specs.Acting.{jobWith, ruleOf, Setting}
 use Rattle.writing.specs.Heading.{headed}
-use Rattle.planning.specs.Planning.{totalsOf}
+use Rattle.planning.specs.Planning.{totalsOf, plansOf}
 use Rattle.planning.specs.declared.Totals.{Totals}
+use Rattle.planning.specs.declared.Plans.{Plans}
 use Rattle.acting.proofs.Acted.{lawful-of}
 use Rattle.planning.proofs.Starting.{right-start}
 use Rattle.choosing.proofs.Pointing.{follows-ahead, forward-made}
@@ -85,31 +86,39 @@ module _ (c : Stored) (fits : Fits c) where
       (subst (λ (x : List ℕ). Right theJob (start theJob) (replicate 512 0) x (firsts refsOf 512 0) (firsts refsOf 512 0)) (sym q)
       (right-start theJob sound (c .disk) on-disk (replicate 512 0) (length-replicate {A = ℕ} 512 0)))
 
-  module _ (spares : Bool) where
-    abbrev theSchedule : Schedule
-    theSchedule = scheduleOf (ruleOf spares) theJob
+  -- what run gives
+  pub run-ends : (a b : Totals) (x y : List ℕ) → a ≡ totalsOf (scheduleOf (ruleOf false) theJob) → b ≡ totalsOf (scheduleOf (ruleOf true) theJob)
+      → x ≡ bytes 40968 (sheetBits (scheduleOf (ruleOf false) theJob)) → y ≡ bytes 40968 (sheetBits (scheduleOf (ruleOf true) theJob))
+      → (record { short = a; sparing = b } ≡ plansOf (jobOf c))
+      × ((x ≡ bytes 40968 (sheetBits (scheduleOf (ruleOf false) (jobOf c)))) × (y ≡ bytes 40968 (sheetBits (scheduleOf (ruleOf true) (jobOf c)))))
+  unfolding plansOf jobOf
+  run-ends a b x y p q r s = ((λ i. record { short = p i; sparing = q i }), (r, s))
 
-    -- a plan's rounds fit the header
-    rounds-few : rounds (scheduleOf (ruleOf spares) theJob) ≤ 2048
-    unfolding scheduleOf planOf rounds
-    rounds-few =
-        let l = length-map (planFrom (ruleOf spares) theJob (refCount theJob) (start theJob)) (map action) in
-        let f = plan-few (ruleOf spares) (lawful-of spares) theJob sound (refCount theJob) (start theJob) (ready-start theJob (sound .fewBlocks)) in
-        let n = sound .fewRefs in
-        omega (arith, l, f, n)
+-- one plan of a sound job
+module _ (j : Job) (sound : Sound j) (spares : Bool) where
+  abbrev theSchedule : Schedule
+  theSchedule = scheduleOf (ruleOf spares) j
 
+  -- its rounds fit the header
+  rounds-few : rounds (scheduleOf (ruleOf spares) j) ≤ 2048
+  unfolding scheduleOf planOf rounds
+  rounds-few =
+      let l = length-map (planFrom (ruleOf spares) j (refCount j) (start j)) (map action) in
+      let f = plan-few (ruleOf spares) (lawful-of spares) j sound (refCount j) (start j) (ready-start j (sound .fewBlocks)) in
+      let n = sound .fewRefs in
+      omega (arith, l, f, n)
+
+  module _ (r : Totals) (s : List ℕ) (e : r ≡ totalsOf theSchedule) (p : s ≡ bytes 40968 (replicate 12 0 ++ roundsBits theSchedule)) where
     -- what put_header asks
-    pub header-fits : (r : Totals) (s : List ℕ) → r ≡ totalsOf theSchedule → s ≡ bytes 40968 (replicate 12 0 ++ roundsBits theSchedule)
-        → (r .rounds ≤ 2048) × (2 ≤ length s) × (getD s 1 0 < 16)
+    pub header-fits : (r .rounds ≤ 2048) × (2 ≤ length s) × (getD s 1 0 < 16)
     unfolding totalsOf
-    header-fits r s e p =
+    header-fits =
         let n = ap (λ (x : Totals). x .rounds) e in
         let few = rounds-few in
         let long = ap length p ∙ length-bytes 40968 (replicate 12 0 ++ roundsBits theSchedule) in
         (omega (arith, n, few), omega (arith, long), header-room 40968 (roundsBits theSchedule) s (rounds-bits theSchedule) (omega arith) p .1)
 
-    -- what run gives
-    pub run-ends : (r : Totals) (s t : List ℕ) → r ≡ totalsOf theSchedule → s ≡ bytes 40968 (replicate 12 0 ++ roundsBits theSchedule) → t ≡ headed s (r .rounds)
-        → (r ≡ totalsOf (scheduleOf (ruleOf spares) (jobOf c))) × (t ≡ bytes 40968 (sheetBits (scheduleOf (ruleOf spares) (jobOf c))))
-    unfolding totalsOf jobOf
-    run-ends r s t e p q = (e, q ∙ (λ i. headed (p i) (e i .rounds)) ∙ headed-sheet theSchedule rounds-few)
+    -- the sheet with its header
+    pub sheet-ends : (t : List ℕ) → t ≡ headed s (r .rounds) → t ≡ bytes 40968 (sheetBits theSchedule)
+    unfolding totalsOf
+    sheet-ends t q = q ∙ (λ i. headed (p i) (e i .rounds)) ∙ headed-sheet theSchedule rounds-few

@@ -5,6 +5,7 @@ use lookup::Firsts;
 use lookup::Heads;
 use playing::Buffers;
 ghost use mathlib.Core.Path.{_≡_};
+ghost use mathlib.Core.Bool.{true, false};
 ghost use mathlib.Core.List.{_++_};
 ghost use lib.ListN.{replicate};
 ghost use Rattle.bits.specs.Bits.{bytes};
@@ -14,13 +15,19 @@ ghost use Rattle.model.specs.Plans.{scheduleOf};
 ghost use Rattle.model.specs.Sheet.{roundsBits, sheetBits};
 ghost use Rattle.choosing.specs.Right.{Right};
 ghost use Rattle.acting.specs.Acting.{jobWith, ruleOf, Setting};
-ghost use Rattle.planning.specs.Planning.{totalsOf};
+ghost use Rattle.planning.specs.Planning.{totalsOf, plansOf};
 
 // The rounds and fetches of a plan, and how many bits its sheet has.
 pub struct Totals {
     pub rounds: usize,
     pub fetches: [u16; 8],
     pub bits: usize,
+}
+
+// The short and the sparing plan.
+pub struct Plans {
+    pub short: Totals,
+    pub sparing: Totals,
 }
 
 // All rounds of a plan, from tables that are right at its start. "The reading stops at the first missing block or at the end."
@@ -89,34 +96,38 @@ fn play_rounds(
     }
 }
 
-// The plan of a job, written as a sheet into a buffer of zeros.
-pub fn run(job: Job, sparing: bool, sheet: &mut [u8]) -> Totals
-    requires { ⌜ Fits job ⌝ }
+// One plan, from the tables at its start, written as a sheet into a buffer of zeros.
+fn write_plan(
+    disks: usize,
+    slots: &[u8; 8],
+    blocks: usize,
+    disk: &[u8; 512],
+    refs: &[u16],
+    sparing: bool,
+    again: &Agains,
+    follow: &Agains,
+    first: Firsts,
+    heads: Heads,
+    sheet: &mut [u8],
+) -> Totals
+    requires { ⌜ Setting (jobWith disks (now slots) blocks (now disk) (now refs)) disks (now slots) blocks (now refs) (now again) (now follow) ⌝ }
+    requires { ⌜ Right (jobWith disks (now slots) blocks (now disk) (now refs)) (start (jobWith disks (now slots) blocks (now disk) (now refs))) (replicate 512 0) heads first first ⌝ }
     requires { ⌜ now sheet ≡ replicate 40968 0 ⌝ }
-    ensures { λ r. ⌜ r ≡ totalsOf (scheduleOf (ruleOf sparing) (jobOf job)) ⌝ }
-    ensures { λ r. ⌜ now (sheet .exit) ≡ bytes 40968 (sheetBits (scheduleOf (ruleOf sparing) (jobOf job))) ⌝ }
+    ensures { λ r. ⌜ r ≡ totalsOf (scheduleOf (ruleOf sparing) (jobWith disks (now (slots .entry)) blocks (now (disk .entry)) (now (refs .entry)))) ⌝ }
+    ensures { λ r. ⌜ now (sheet .exit) ≡ bytes 40968 (sheetBits (scheduleOf (ruleOf sparing) (jobWith disks (now (slots .entry)) blocks (now (disk .entry)) (now (refs .entry))))) ⌝ }
 {
-    let n = job.count;
-    let all = job.refs;
-    let disk = job.disk;
-    let slots = job.slots;
-    let refs = &all[..n];
-    let mut next: Firsts = [0; 512];
-    let mut again: Agains = [0; 2048];
-    let mut follow: Agains = [0; 2048];
-    let mut look: Heads = [0; 8];
-    lookup::index(refs, &mut next, &mut again);
-    lookup::chain(refs, &disk, &mut follow, &mut look);
-    let mut later = next;
+    let mut next = first;
+    let mut later = first;
+    let mut look = heads;
     let totals = play_rounds(
-        job.disks,
-        &slots,
-        job.blocks,
-        &disk,
+        disks,
+        slots,
+        blocks,
+        disk,
         refs,
         sparing,
-        &again,
-        &follow,
+        again,
+        follow,
         &mut next,
         &mut later,
         &mut look,
@@ -124,4 +135,58 @@ pub fn run(job: Job, sparing: bool, sheet: &mut [u8]) -> Totals
     );
     writing::put_header(sheet, totals.rounds);
     totals
+}
+
+// Both plans of a job, each written as a sheet into a buffer of zeros. The tables are made once.
+pub fn run(job: Job, short: &mut [u8], sparing: &mut [u8]) -> Plans
+    requires { ⌜ Fits job ⌝ }
+    requires { ⌜ now short ≡ replicate 40968 0 ⌝ }
+    requires { ⌜ now sparing ≡ replicate 40968 0 ⌝ }
+    ensures { λ r. ⌜ r ≡ plansOf (jobOf job) ⌝ }
+    ensures { λ r. ⌜ now (short .exit) ≡ bytes 40968 (sheetBits (scheduleOf (ruleOf false) (jobOf job))) ⌝ }
+    ensures { λ r. ⌜ now (sparing .exit) ≡ bytes 40968 (sheetBits (scheduleOf (ruleOf true) (jobOf job))) ⌝ }
+{
+    let n = job.count;
+    let all = job.refs;
+    let disk = job.disk;
+    let slots = job.slots;
+    let refs = &all[..n];
+    let mut first: Firsts = [0; 512];
+    let mut again: Agains = [0; 2048];
+    let mut follow: Agains = [0; 2048];
+    let mut heads: Heads = [0; 8];
+    lookup::index(refs, &mut first, &mut again);
+    lookup::chain(refs, &disk, &mut follow, &mut heads);
+    let disks = job.disks;
+    let blocks = job.blocks;
+    let a = write_plan(
+        disks,
+        &slots,
+        blocks,
+        &disk,
+        refs,
+        false,
+        &again,
+        &follow,
+        first,
+        heads,
+        short,
+    );
+    let b = write_plan(
+        disks,
+        &slots,
+        blocks,
+        &disk,
+        refs,
+        true,
+        &again,
+        &follow,
+        first,
+        heads,
+        sparing,
+    );
+    Plans {
+        short: a,
+        sparing: b,
+    }
 }
