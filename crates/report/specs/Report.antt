@@ -14,7 +14,7 @@ unfoldable pub decimalIn : ℕ → ℕ → List ℕ
 decimalIn zero n = []
 decimalIn (suc most) n = elim (ltb n 10) [ true ↦ (48 + n) ∷ [] | false ↦ decimalIn most (n / 10) ++ (48 + n % 10) ∷ [] ]
 
--- A number has fewer digits than n + 2.
+-- n + 1 digits are enough for the number n.
 unfoldable pub decimal : ℕ → List ℕ
 unfolding decimalIn
 decimal n = decimalIn (suc n) n
