@@ -1,5 +1,5 @@
-# "make" builds the archive, the program, the tools and the example; "make install" puts header, archive, pkg-config file
-# and program below PREFIX. Archive and program are proved before they are written: that needs rt on the path and minutes.
+# "make -s plan <TICKET" plans a ticket. "make" builds the archive, the program, the tools and the example; "make install" puts header, archive,
+# pkg-config file and program below PREFIX. Archive and program are proved before they are written: that needs rt on the path and minutes.
 
 VERSION = 0.1.0
 PREFIX = /usr/local
@@ -15,16 +15,20 @@ SOURCES := crates.txt $(shell find crates -name '*.rt' -o -name '*.antt')
 TO = $(DESTDIR)$(PREFIX)
 TRIAL = target/c/install
 
-.PHONY: all tools example install uninstall check-install clean
-
 all: $(ARCHIVE) $(PROGRAM) tools example
 
+# What rt prints while it proves goes to standard error.
+plan: $(PROGRAM)
+	@$(PROGRAM)
+
+.PHONY: all plan tools example install uninstall check-install clean
+
 target/staticlib/libplanner.a: $(SOURCES)
-	$(RT) staticlib planner
+	$(RT) staticlib planner >&2 </dev/null
 	@test -f $@ && touch $@
 
 target/bin/plan: $(SOURCES)
-	$(RT) check plan
+	$(RT) check plan >&2 </dev/null
 	@test -f $@ && touch $@
 
 tools:

@@ -1,5 +1,5 @@
 // Forward distances: the next reference of each block, made once from the reference list in one backward pass and kept up as reading goes on, in
-// constant time a reference; and the references of each disk as a chain. Positions live behind this crate's contracts alone.
+// constant time a reference; and the references of each disk as a chain. How a position is held is known here only.
 ghost use mathlib.Core.Path.{_≡_};
 ghost use Prim.Native.Nat.{_<_, _≤_};
 ghost use lib.ListN.{length, getD, set};

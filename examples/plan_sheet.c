@@ -1,0 +1,34 @@
+/* plan_sheet.c - reads a ticket from standard input and writes the sheet to run to standard output.
+ *
+ * Exit 1 with a line on standard error if the ticket is refused, 2 if reading or writing fails. */
+#include <planner.h>
+
+#include <stdio.h>
+
+int main(void)
+{
+    /* One byte more than the longest ticket: a longer input is refused as it would be as a whole. */
+    static uint8_t ticket[PLANNER_LONGEST_TICKET + 1];
+    static uint8_t sheets[2][PLANNER_LONGEST_SHEET];
+    uint8_t counts[4];
+    size_t n = fread(ticket, 1, sizeof ticket, stdin);
+
+    if (ferror(stdin)) {
+        perror("reading the ticket");
+        return 2;
+    }
+    uint32_t number = planner_plan(ticket, n, sheets[0], sizeof sheets[0], sheets[1], sizeof sheets[1], counts, sizeof counts);
+
+    if (number != PLANNER_OK) {
+        fprintf(stderr, "refused %u\n", (unsigned)number);
+        return 1;
+    }
+    unsigned mark = (unsigned)counts[0] << 8 | counts[1];     /* 0: the short sheet, 1: the sparing one */
+    size_t length = (size_t)counts[2] << 8 | counts[3];
+
+    if (fwrite(sheets[mark], 1, length, stdout) != length || fflush(stdout) != 0) {
+        perror("writing the sheet");
+        return 2;
+    }
+    return 0;
+}
