@@ -1,7 +1,7 @@
 -- What is known while the rounds of a sheet are played: the answer is what the rest of the sheet gives from here. Each step of the player keeps
 -- it. Assumes nothing.
 use mathlib.Core.Path.{_≡_, refl, sym, ap, _∙_, subst, subst₃}
-use mathlib.Core.Bool.{Bool, true, false}
+use mathlib.Core.Bool.{Bool, true, false, _&&_}
 use mathlib.Core.List.{List}
 use Prim.Native.Nat.{ℕ, zero, suc, _+_, _-_, _*_, _≤_, _<_}
 use native.Mathlib.Numerals.{add-one}
@@ -17,11 +17,12 @@ use Rattle.bits.proofs.Bits.{bits-are, drop-bits}
 use Rattle.job.specs.Meaning.{jobOf, Fits}
 use Rattle.job.specs.declared.Job.{Job as Stored}
 use Rattle.job.proofs.Laws.{disks-are, blocks-are, refs-are, slots-at, disk-at, ref-at}
-use Rattle.model.specs.Job.{Job, diskCount, blockCount, slotsOf}
+use Rattle.model.specs.Job.{Job, diskCount, blockCount, slotsOf, diskOf}
 use Rattle.model.specs.Playing.{Action, fetch, replace, State, start, noneResident, isResident, load, act, consumed}
 use Rattle.model.specs.Sheet.{actionReader}
 use Rattle.model.specs.Valid.{Block, Legal}
 use Rattle.model.specs.Calls.{Counts}
+use Rattle.model.proofs.Counting.{count-most}
 use Rattle.model.proofs.Sheets.{Room}
 use Rattle.playing.specs.declared.Buffers.{Buffers}
 use Rattle.playing.specs.Playing.{emptyBuffers, fetchInto, replaceIn, consumeOne, Holds}
@@ -169,6 +170,13 @@ module _ {c : Stored} (h : Fits c) {s : List ℕ} {rounds : ℕ} where
 
     small : d < 8
     small = let a = here in let b = fewDisks in omega (arith, a, b)
+
+    pub held-few : getD (b .held) d 0 ≤ 512
+    unfolding load
+    held-few =
+        let loads = held .loads d here in
+        let most = count-most (λ x. eqb (diskOf (jobOf c) x) d && isResident (b .resident) x) (blockCount (jobOf c)) in
+        omega (arith, loads, most, fewBlocks)
 
     -- the reader of the model reads the same action
     reads : (a : Act) → a ≡ actionHere c s b at d → actionReader (jobOf c) (b .resident) d (drop at (bits s)) ≡ actRead s at a

@@ -37,8 +37,8 @@ fn refusal(number: usize) -> Checked
     }
 }
 
-// A byte as a number.
-fn wide(x: u8) -> usize
+// A disk number of the table as a number.
+fn wide(x: u16) -> usize
     ensures { λ r. ⌜ r ≡ x ⌝ }
 {
     x as usize
@@ -49,7 +49,7 @@ fn discard(
     sheet: &[u8],
     at: usize,
     blocks: usize,
-    disk: &[u8; 512],
+    disk: &[u16; 512],
     resident: &[bool; 512],
     d: usize,
     x: usize,
@@ -88,7 +88,7 @@ fn action(
     sheet: &[u8],
     at: usize,
     blocks: usize,
-    disk: &[u8; 512],
+    disk: &[u16; 512],
     resident: &[bool; 512],
     d: usize,
     full: bool,
@@ -149,7 +149,7 @@ fn play(job: Job, sheet: &[u8], rounds: usize) -> Checked
     'rounds: while k < rounds {
         let mut d = 0;
         while d < job.disks {
-            let full = job.slots[d] <= b.held[d];
+            let full = job.slots[d] <= b.held[d] as u16;
             match action(sheet, at, job.blocks, &job.disk, &b.resident, d, full) {
                 Act::Idle => at += 1,
                 Act::Fetch(x) => {

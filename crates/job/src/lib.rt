@@ -2,10 +2,10 @@
 pub struct Job {
     // disks D, and the buffer slots of each
     pub disks: usize,
-    pub slots: [u8; 8],
+    pub slots: [u16; 8],
     // blocks B, and the disk of each
     pub blocks: usize,
-    pub disk: [u8; 512],
+    pub disk: [u16; 512],
     // references N, and the block of each
     pub count: usize,
     pub refs: [u16; 2048],

@@ -46,7 +46,7 @@ pub fn index(refs: &[u16], first: &mut Firsts, again: &mut Agains)
 }
 
 // The first reference of each disk, and for each reference the next one of its disk.
-pub fn chain(refs: &[u16], disk_of: &[u8; 512], next_on: &mut Agains, head: &mut Heads)
+pub fn chain(refs: &[u16], disk_of: &[u16; 512], next_on: &mut Agains, head: &mut Heads)
     requires { ⌜ (length (now refs) ≤ 2048) × Below 512 (now refs) × Below 8 (now «disk_of») ⌝ }
     ensures { λ _. ⌜ now (head .exit) ≡ firsts (refDisks (now («disk_of» .entry)) (now (refs .entry))) 8 0 ⌝ }
     ensures { λ _. ⌜ now («next_on» .exit) ≡ agains (refDisks (now («disk_of» .entry)) (now (refs .entry))) (now («next_on» .entry)) ⌝ }

@@ -15,6 +15,14 @@ count-no : (t : ℕ → Bool) (n : ℕ) → t n ≡ false → count t (suc n) �
 unfolding count
 count-no t n e = rw e
 
+-- no more than there are
+pub count-most : (t : ℕ → Bool) (n : ℕ) → count t n ≤ n
+unfolding count
+count-most t zero = omega arith
+count-most t (suc n) =
+    let ih = count-most t n in
+    by-test (t n) (λ e. let a = count-yes t n e in omega (arith, a, ih)) (λ e. let a = count-no t n e in omega (arith, a, ih))
+
 -- fewer pass a stronger test
 pub count-mono : (s t : ℕ → Bool) (n : ℕ) → ((b : ℕ) → b < n → s b ≡ true → t b ≡ true) → count s n ≤ count t n
 unfolding count

@@ -33,9 +33,9 @@ pub struct Plans {
 // All rounds of a plan, from tables that are right at its start. "The reading stops at the first missing block or at the end."
 fn play_rounds(
     disks: usize,
-    slots: &[u8; 8],
+    slots: &[u16; 8],
     blocks: usize,
-    disk: &[u8; 512],
+    disk: &[u16; 512],
     refs: &[u16],
     sparing: bool,
     again: &Agains,
@@ -99,9 +99,9 @@ fn play_rounds(
 // One plan, from the tables at its start, written as a sheet into a buffer of zeros.
 fn write_plan(
     disks: usize,
-    slots: &[u8; 8],
+    slots: &[u16; 8],
     blocks: usize,
-    disk: &[u8; 512],
+    disk: &[u16; 512],
     refs: &[u16],
     sparing: bool,
     again: &Agains,

@@ -1,4 +1,4 @@
-// The parts of a ticket: a count and then that many entries, and the closing bits.
+// The parts of a ticket: a count and then that many entries.
 use crate::Entry;
 use crate::Part;
 use crate::Row;
@@ -27,41 +27,8 @@ fn checked(t: &[u8], at: usize, row: Row) -> Entry
     Entry::Value(v)
 }
 
-// Entries of one byte, read from the bit `at` on into a table, up to the first that is refused.
-fn fill_bytes(t: &[u8], at: usize, row: Row, count: usize, table: &mut [u8]) -> Part
-    requires { ⌜ row .width ≤ 12 ⌝ }
-    requires { ⌜ row .limit ≤ 256 ⌝ }
-    requires { ⌜ at < 65536 ⌝ }
-    requires { ⌜ count ≤ 2048 ⌝ }
-    requires { ⌜ count ≤ length (now table) ⌝ }
-    ensures { λ r. ⌜ r ≡ fill (now (t .entry)) at row count 0 count (now (table .entry)) .part ⌝ }
-    ensures { λ r. ⌜ now (table .exit) ≡ fill (now (t .entry)) at row count 0 count (now (table .entry)) .table ⌝ }
-{
-    let mut next = at;
-    let mut i = 0;
-    while i < count {
-        match checked(t, next, row) {
-            Entry::Value(v) => table[i] = v as u8,
-            Entry::Refused(number) => {
-                return Part {
-                    number,
-                    count: 0,
-                    next: 0,
-                };
-            }
-        }
-        next += row.width;
-        i += 1;
-    }
-    Part {
-        number: 0,
-        count,
-        next,
-    }
-}
-
-// Entries of two bytes, read from the bit `at` on into a table, up to the first that is refused.
-fn fill_words(t: &[u8], at: usize, row: Row, count: usize, table: &mut [u16]) -> Part
+// Entries, read from the bit `at` on into a table, up to the first that is refused.
+fn fill_table(t: &[u8], at: usize, row: Row, count: usize, table: &mut [u16]) -> Part
     requires { ⌜ row .width ≤ 12 ⌝ }
     requires { ⌜ row .limit ≤ 65536 ⌝ }
     requires { ⌜ at < 65536 ⌝ }
@@ -93,29 +60,8 @@ fn fill_words(t: &[u8], at: usize, row: Row, count: usize, table: &mut [u16]) ->
     }
 }
 
-// A count and then as many entries of one byte, read from the bit `at` on.
-pub fn bytes_part(t: &[u8], at: usize, counts: Row, entries: Row, table: &mut [u8]) -> Part
-    requires { ⌜ counts .width ≤ 12 ⌝ }
-    requires { ⌜ entries .width ≤ 12 ⌝ }
-    requires { ⌜ entries .limit ≤ 256 ⌝ }
-    requires { ⌜ at < 65000 ⌝ }
-    requires { ⌜ counts .limit ≤ 2049 ⌝ }
-    requires { ⌜ counts .limit ≤ length (now table) + 1 ⌝ }
-    ensures { λ r. ⌜ r ≡ partAt (now (t .entry)) at counts entries (now (table .entry)) .part ⌝ }
-    ensures { λ r. ⌜ now (table .exit) ≡ partAt (now (t .entry)) at counts entries (now (table .entry)) .table ⌝ }
-{
-    match checked(t, at, counts) {
-        Entry::Value(count) => fill_bytes(t, at + counts.width, entries, count, table),
-        Entry::Refused(number) => Part {
-            number,
-            count: 0,
-            next: 0,
-        },
-    }
-}
-
-// A count and then as many entries of two bytes, read from the bit `at` on.
-pub fn words_part(t: &[u8], at: usize, counts: Row, entries: Row, table: &mut [u16]) -> Part
+// A count and then as many entries, read from the bit `at` on.
+pub fn table_part(t: &[u8], at: usize, counts: Row, entries: Row, table: &mut [u16]) -> Part
     requires { ⌜ counts .width ≤ 12 ⌝ }
     requires { ⌜ entries .width ≤ 12 ⌝ }
     requires { ⌜ entries .limit ≤ 65536 ⌝ }
@@ -126,7 +72,7 @@ pub fn words_part(t: &[u8], at: usize, counts: Row, entries: Row, table: &mut [u
     ensures { λ r. ⌜ now (table .exit) ≡ partAt (now (t .entry)) at counts entries (now (table .entry)) .table ⌝ }
 {
     match checked(t, at, counts) {
-        Entry::Value(count) => fill_words(t, at + counts.width, entries, count, table),
+        Entry::Value(count) => fill_table(t, at + counts.width, entries, count, table),
         Entry::Refused(number) => Part {
             number,
             count: 0,

@@ -2,8 +2,7 @@
 mod fields;
 
 use bits::read::closed;
-use fields::bytes_part;
-use fields::words_part;
+use fields::table_part;
 use job::Job;
 ghost use mathlib.Core.Path.{_≡_};
 ghost use Rattle.ticket.specs.Meaning.{noTicket, ticketRead};
@@ -97,8 +96,8 @@ fn ref_row(blocks: usize) -> Row
 fn refused(number: usize) -> Ticket
     ensures { λ r. ⌜ r ≡ noTicket number ⌝ }
 {
-    let slots = [0u8; 8];
-    let disk = [0u8; 512];
+    let slots = [0u16; 8];
+    let disk = [0u16; 512];
     let refs = [0u16; 2048];
     let job = Job {
         disks: 0,
@@ -115,18 +114,18 @@ fn refused(number: usize) -> Ticket
 pub fn read(t: &[u8]) -> Ticket
     ensures { λ r. ⌜ r ≡ ticketRead (now (t .entry)) ⌝ }
 {
-    let mut slots = [0u8; 8];
-    let disks = bytes_part(t, 0, DISKS, SLOTS, &mut slots);
+    let mut slots = [0u16; 8];
+    let disks = table_part(t, 0, DISKS, SLOTS, &mut slots);
     if disks.number != 0 {
         return refused(disks.number);
     }
-    let mut disk = [0u8; 512];
-    let blocks = bytes_part(t, disks.next, BLOCKS, disk_row(disks.count), &mut disk);
+    let mut disk = [0u16; 512];
+    let blocks = table_part(t, disks.next, BLOCKS, disk_row(disks.count), &mut disk);
     if blocks.number != 0 {
         return refused(blocks.number);
     }
     let mut refs = [0u16; 2048];
-    let references = words_part(t, blocks.next, REFERENCES, ref_row(blocks.count), &mut refs);
+    let references = table_part(t, blocks.next, REFERENCES, ref_row(blocks.count), &mut refs);
     if references.number != 0 {
         return refused(references.number);
     }

@@ -115,6 +115,9 @@ head-of-requires c κs = disk-small (c .before .before)
 mul-choose : tie.Need-mul-choose Inv-loop μ-loop
 mul-choose c = (let s = disk-small (c .before .before .before .before) in omega (arith, s))
 
+mul-choose-2 : tie.Need-mul-choose-2 Inv-loop μ-loop
+mul-choose-2 c = let s = disk-small (c .before .before .before .before) in omega (arith, s)
+
 element-copy-out-choose : tie.Need-element-copy-out-choose Inv-loop μ-loop
 element-copy-out-choose c = disk-small (c .before .before .before .before)
 
@@ -275,6 +278,7 @@ act-all-spec =
     cast-count
     head-of-requires
     mul-choose
+    mul-choose-2
     element-copy-out-choose
     cast-choose
     choose-requires

@@ -79,6 +79,9 @@ returns-3 c =
 returns-4 : tie.Need-returns-4
 returns-4 c = rw (block-read (c .before), le-leb _ _ (c .if2 .taken))
 
+mul-wide : tie.Need-mul-wide
+mul-wide c = omega arith
+
 element-copy-out-wide : tie.Need-element-copy-out-wide
 element-copy-out-wide c = omega arith
 
@@ -139,6 +142,7 @@ action-spec =
     enum-told-2
     returns-3
     returns-4
+    mul-wide
     element-copy-out-wide
     wide-requires
     returns-5

@@ -81,6 +81,9 @@ returns-4 c =
 returns-5 : tie.Need-returns-5
 returns-5 c = rw (block-read (c .before), le-ltb _ _ (c .if3 .taken))
 
+mul-wide : tie.Need-mul-wide
+mul-wide c = omega arith
+
 element-copy-out-wide : tie.Need-element-copy-out-wide
 element-copy-out-wide c = omega arith
 
@@ -135,6 +138,7 @@ discard-spec =
     enum-told-2
     returns-4
     returns-5
+    mul-wide
     element-copy-out-wide
     wide-requires
     returns-6

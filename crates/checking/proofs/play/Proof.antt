@@ -63,11 +63,20 @@ fetches-fit c =
     let p = c .before .loop .inv .kept .few (c .before .loop .d) in
     omega (arith, n, d, k, p)
 
+mul-full : tie.Need-mul-full Inv-loop μ-loop Inv-reading μ-reading Inv-rounds μ-rounds
+mul-full c = let l = disk-small c in omega (arith, l)
+
 element-copy-out-full : tie.Need-element-copy-out-full Inv-loop μ-loop Inv-reading μ-reading Inv-rounds μ-rounds
 element-copy-out-full c = disk-small c
 
 element-copy-out-full-2 : tie.Need-element-copy-out-full-2 Inv-loop μ-loop Inv-reading μ-reading Inv-rounds μ-rounds
 element-copy-out-full-2 c = disk-small (c .before)
+
+cast-full : tie.Need-cast-full Inv-loop μ-loop Inv-reading μ-reading Inv-rounds μ-rounds
+cast-full c =
+    let t = c .before .before in
+    let few = step.held-few (entry (t .before .before) .pre .0) (t .before .loop .inv) (t .loop-test .taken) in
+    omega (arith, few)
 
 action-requires : tie.Need-action-requires Inv-loop μ-loop Inv-reading μ-reading Inv-rounds μ-rounds
 action-requires c κs =
@@ -248,8 +257,10 @@ play-spec =
     empty-requires
     rounds-holds
     loop-holds
+    mul-full
     element-copy-out-full
     element-copy-out-full-2
+    cast-full
     action-requires
     enum-told
     add-at

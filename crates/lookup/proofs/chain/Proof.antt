@@ -56,6 +56,9 @@ shared-slice-read-disk c = here (c .before)
 cast-disk : tie.Need-cast-disk Inv-loop μ-loop
 cast-disk c = omega (arith, named (c .before))
 
+mul-disk-2 : tie.Need-mul-disk-2 Inv-loop μ-loop
+mul-disk-2 c = omega (arith, named (c .before))
+
 element-copy-out-disk : tie.Need-element-copy-out-disk Inv-loop μ-loop
 element-copy-out-disk c = named (c .before)
 
@@ -116,6 +119,7 @@ chain-spec =
     mul-disk
     shared-slice-read-disk
     cast-disk
+    mul-disk-2
     element-copy-out-disk
     cast-disk-2
     mul-next-on

@@ -19,27 +19,27 @@ abbrev ticket : tie.Else1 → List ℕ
 ticket c = now (c .before .before .before .before .before .before .args .t)
 
 abbrev first : tie.Else1 → Part
-first c = c .before .before .before .bytes-part .result
+first c = c .before .before .before .table-part .result
 
 abbrev slots : tie.Else1 → List ℕ
-slots c = c .before .before .before .bytes-part .last .1 .1 .1 .1 .0
+slots c = c .before .before .before .table-part .last .1 .1 .1 .1 .0
 
 slots-read : (c : tie.Else1) → Slots (ticket c) (first c) (slots c)
-slots-read c = let part = c .before .before .before .bytes-part .ensures in slots-got (ticket c) (part .0) (part .1) (c .if1 .left)
+slots-read c = let part = c .before .before .before .table-part .ensures in slots-got (ticket c) (part .0) (part .1) (c .if1 .left)
 
 abbrev one : tie.Else2 → tie.Else1
 one c = c .before .before .before .before .before .before
 
 abbrev second : tie.Else2 → Part
-second c = c .before .before .before .bytes-part2 .result
+second c = c .before .before .before .table-part2 .result
 
 abbrev disk : tie.Else2 → List ℕ
-disk c = c .before .before .before .bytes-part2 .last .1 .1 .1 .1 .0
+disk c = c .before .before .before .table-part2 .last .1 .1 .1 .1 .0
 
 disks-read : (c : tie.Else2) → Disks (ticket (one c)) (first (one c)) (slots-read (one c) .values) (second c) (disk c)
 disks-read c =
     let a = one c in
-    let part = c .before .before .before .bytes-part2 .ensures in
+    let part = c .before .before .before .table-part2 .ensures in
     let row = c .before .before .before .before .before .disk-row .ensures in
     disks-got (ticket a) (first a) (slots a) (slots-read a) _ row (part .0) (part .1) (c .if2 .left)
 
@@ -47,25 +47,25 @@ abbrev two : tie.Else3 → tie.Else2
 two c = c .before .before .before .before .before .before
 
 abbrev third : tie.Else3 → Part
-third c = c .before .before .before .words-part .result
+third c = c .before .before .before .table-part3 .result
 
 abbrev refs : tie.Else3 → List ℕ
-refs c = c .before .before .before .words-part .last .1 .1 .1 .1 .0
+refs c = c .before .before .before .table-part3 .last .1 .1 .1 .1 .0
 
 refs-read : (c : tie.Else3)
     → Refs (ticket (one (two c))) (slots-read (one (two c)) .values) (second (two c)) (disks-read (two c) .values) (third c) (refs c)
 refs-read c =
     let b = two c in
     let a = one b in
-    let part = c .before .before .before .words-part .ensures in
+    let part = c .before .before .before .table-part3 .ensures in
     let row = c .before .before .before .before .before .ref-row .ensures in
     refs-got (ticket a) (first a) (slots a) (slots-read a) (second b) (disk b) (disks-read b) _ row (part .0) (part .1) (c .if3 .left)
 
-slice-aggregate-bytes-part : tie.Need-slice-aggregate-bytes-part
-slice-aggregate-bytes-part c = search needs
+slice-aggregate-table-part : tie.Need-slice-aggregate-table-part
+slice-aggregate-table-part c = search needs
 
-bytes-part-requires : tie.Need-bytes-part-requires
-bytes-part-requires c κs = search needs
+table-part-requires : tie.Need-table-part-requires
+table-part-requires c κs = search needs
 
 refused-requires : tie.Need-refused-requires
 refused-requires c κs = search needs
@@ -73,16 +73,16 @@ refused-requires c κs = search needs
 returns : tie.Need-returns
 returns c =
     let part = c .before .before .before .before in
-    c .refused .ensures ∙ sym (slots-refused (now (part .before .before .before .args .t)) (part .bytes-part .ensures .0) (c .before .if1 .taken))
+    c .refused .ensures ∙ sym (slots-refused (now (part .before .before .before .args .t)) (part .table-part .ensures .0) (c .before .if1 .taken))
 
 disk-row-requires : tie.Need-disk-row-requires
 disk-row-requires c κs = search needs
 
-slice-aggregate-bytes-part-2 : tie.Need-slice-aggregate-bytes-part-2
-slice-aggregate-bytes-part-2 c = search needs
+slice-aggregate-table-part-2 : tie.Need-slice-aggregate-table-part-2
+slice-aggregate-table-part-2 c = search needs
 
-bytes-part-requires-2 : tie.Need-bytes-part-requires-2
-bytes-part-requires-2 c κs =
+table-part-requires-2 : tie.Need-table-part-requires-2
+table-part-requires-2 c κs =
     let a = slots-read (c .before .before) in
     let row = c .before .disk-row .ensures in
     let width = ap (λ (x : Row). x .width) row in
@@ -98,16 +98,16 @@ returns-2 c =
     let a = part .before .before .before in
     c .refused2 .ensures
     ∙ sym (disks-refused (ticket a) (first a) (slots a) (slots-read a) _ (part .before .before .disk-row .ensures)
-    (part .bytes-part2 .ensures .0) (c .before .if2 .taken))
+    (part .table-part2 .ensures .0) (c .before .if2 .taken))
 
 ref-row-requires : tie.Need-ref-row-requires
 ref-row-requires c κs = search needs
 
-slice-aggregate-words-part : tie.Need-slice-aggregate-words-part
-slice-aggregate-words-part c = search needs
+slice-aggregate-table-part-3 : tie.Need-slice-aggregate-table-part-3
+slice-aggregate-table-part-3 c = search needs
 
-words-part-requires : tie.Need-words-part-requires
-words-part-requires c κs =
+table-part-requires-3 : tie.Need-table-part-requires-3
+table-part-requires-3 c κs =
     let b = c .before .before in
     let p = slots-read (one b) in
     let q = disks-read b in
@@ -126,7 +126,7 @@ returns-3 c =
     let a = one b in
     c .refused3 .ensures
     ∙ sym (refs-refused (ticket a) (first a) (slots a) (slots-read a) (second b) (disk b) (disks-read b) _ (part .before .before .ref-row .ensures)
-    (part .words-part .ensures .0) (c .before .if3 .taken))
+    (part .table-part3 .ensures .0) (c .before .if3 .taken))
 
 closed-requires : tie.Need-closed-requires
 closed-requires c κs =
@@ -159,18 +159,18 @@ pub read-spec : {M : Type 1} → statement M
 read-spec =
     tie.close
     (tie.spec
-    slice-aggregate-bytes-part
-    bytes-part-requires
+    slice-aggregate-table-part
+    table-part-requires
     refused-requires
     returns
     disk-row-requires
-    slice-aggregate-bytes-part-2
-    bytes-part-requires-2
+    slice-aggregate-table-part-2
+    table-part-requires-2
     refused-requires-2
     returns-2
     ref-row-requires
-    slice-aggregate-words-part
-    words-part-requires
+    slice-aggregate-table-part-3
+    table-part-requires-3
     refused-requires-3
     returns-3
     closed-requires

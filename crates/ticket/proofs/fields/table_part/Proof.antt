@@ -1,12 +1,12 @@
--- `ticket::fields::bytes_part` meets its contract: a count within its row has room in the table. Assumes nothing.
+-- `ticket::fields::table_part` meets its contract: a count within its row has room in the table. Assumes nothing.
 use borrow.Author.Needs.{needs}
 use mathlib.Core.Path.{sym, _∙_}
 use native.Mathlib.Omega.{arith}
 use denote.Ref.{now}
 use Rattle.ticket.proofs.Entries.{entry-within}
 use Rattle.ticket.proofs.Filling.{part-entries, part-refused}
-use Rattle.ticket.proofs.fields.bytes_part.Statement.{statement}
-use Rattle.ticket.proofs.fields.bytes_part.Tie as tie
+use Rattle.ticket.proofs.fields.table_part.Statement.{statement}
+use Rattle.ticket.proofs.fields.table_part.Tie as tie
 
 checked-requires : tie.Need-checked-requires
 checked-requires c κs = search needs
@@ -14,11 +14,11 @@ checked-requires c κs = search needs
 enum-known-count : tie.Need-enum-known-count
 enum-known-count c = search needs
 
-add-fill-bytes : tie.Need-add-fill-bytes
-add-fill-bytes c = search needs
+add-fill-table : tie.Need-add-fill-table
+add-fill-table c = search needs
 
-fill-bytes-requires : tie.Need-fill-bytes-requires
-fill-bytes-requires c κs =
+fill-table-requires : tie.Need-fill-table-requires
+fill-table-requires c κs =
     let count = c .before .before .before in
     let checked = count .before .before in
     let args = checked .before .before .before .args in
@@ -38,7 +38,7 @@ returns c =
     let checked = count .before .before in
     let args = checked .before .before .before .args in
     let entry = sym (checked .checked .ensures) ∙ count .count .given .1 in
-    part-entries (now (args .t)) (args .at) (args .counts) (args .entries) (now (args .table)) entry (filled .fill-bytes .ensures)
+    part-entries (now (args .t)) (args .at) (args .counts) (args .entries) (now (args .table)) entry (filled .fill-table .ensures)
 
 returns-2 : tie.Need-returns-2
 returns-2 c =
@@ -47,14 +47,14 @@ returns-2 c =
     let entry = sym (checked .checked .ensures) ∙ c .before .number .given .1 in
     part-refused (now (args .t)) (args .at) (args .counts) (args .entries) (now (args .table)) entry
 
-pub bytes-part-spec : {M : Type 1} → statement M
-bytes-part-spec =
+pub table-part-spec : {M : Type 1} → statement M
+table-part-spec =
     tie.close
     (tie.spec
     checked-requires
     enum-known-count
-    add-fill-bytes
-    fill-bytes-requires
+    add-fill-table
+    fill-table-requires
     enum-known-number
     same-length
     returns

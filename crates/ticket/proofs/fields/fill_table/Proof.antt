@@ -1,4 +1,4 @@
--- `ticket::fields::fill_words` meets its contract. The invariant: the answer is what the rest gives from here. Assumes nothing.
+-- `ticket::fields::fill_table` meets its contract. The invariant: the answer is what the rest gives from here. Assumes nothing.
 use borrow.Author.Needs.{needs}
 use mathlib.Core.Path.{sym, _∙_}
 use Prim.Native.Nat.{_-_}
@@ -6,8 +6,8 @@ use native.Mathlib.Omega.{arith}
 use denote.Ref.{now}
 use Rattle.ticket.proofs.Entries.{entry-within}
 use Rattle.ticket.proofs.Filling.{Going, going-start, going-on, going-stopped, going-whole}
-use Rattle.ticket.proofs.fields.fill_words.Statement.{statement}
-use Rattle.ticket.proofs.fields.fill_words.Tie as tie
+use Rattle.ticket.proofs.fields.fill_table.Statement.{statement}
+use Rattle.ticket.proofs.fields.fill_table.Tie as tie
 
 abbrev Inv-loop : tie.InvT-loop
 Inv-loop t at row count table₀ next₀ i₀ table next i = Going t at row count table₀ next i table
@@ -71,8 +71,8 @@ same-length-2 c = c .before .loop .inv .long
 returns-2 : tie.Need-returns-2 Inv-loop μ-loop
 returns-2 c = going-whole (c .loop-test .left) (c .before .loop .inv)
 
-pub fill-words-spec : {M : Type 1} → statement M
-fill-words-spec =
+pub fill-table-spec : {M : Type 1} → statement M
+fill-table-spec =
     tie.close
     (tie.spec
     Inv-loop
