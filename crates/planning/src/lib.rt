@@ -1,4 +1,4 @@
-// A plan of a job by either rule: its rounds, its fetches and its sheet.
+// Both plans of a job: their rounds, their fetches and their sheets.
 use job::Job;
 use lookup::Agains;
 use lookup::Firsts;
