@@ -255,6 +255,31 @@ static void few_rounds(unsigned repeats)
     printf("\n");
 }
 
+/* Reading the longest ticket: the check of an empty sheet, which ends with 9. */
+static void reading(unsigned repeats)
+{
+    enum { TIMES = 32 };
+    static double took[2][MOST_REPEATS];
+    const struct shape s = {RANDOM, 8, 512, 2048, 4};
+    uint8_t counts[PLANNER_CHECK_COUNTS];
+    struct ref_counts ref;
+
+    prepare(&s);
+    for (unsigned r = 0; r < repeats; r++) {
+        for (int which = 0; which < 2; which++) {
+            double start = nanoseconds();
+
+            for (unsigned k = 0; k < TIMES; k++)
+                must((which == 0 ? planner_check(job.ticket, job.ticket_length, NULL, 0, counts, sizeof counts)
+                                 : ref_check(job.ticket, job.ticket_length, job.sheet[0], 0, &ref)) == PLANNER_SHEET_ENDS,
+                     "an empty sheet does not end with 9");
+            took[which][r] = (nanoseconds() - start) / TIMES;
+        }
+    }
+    printf("Reading the longest ticket, %zu bytes: %.1f us, the reference %.1f us.\n\n", job.ticket_length, median_of(took[0], repeats) / 1e3,
+           median_of(took[1], repeats) / 1e3);
+}
+
 /* One size grows, the others stay: random references, 4 slots. */
 static void growth(const char *name, size_t which, const unsigned *values, unsigned repeats, FILE *data)
 {
@@ -314,6 +339,7 @@ int main(int argc, char **argv)
     must(repeats > 0 && repeats <= MOST_REPEATS && data != NULL, "usage: bench [REPEATS [DATA]]");
     slow = full_size(repeats);
     few_rounds(repeats);
+    reading(repeats);
     all_growth(repeats, data);
     stacks();
     fclose(data);
