@@ -23,6 +23,11 @@ static unsigned number_at(const uint8_t *counts, unsigned k)
     return (unsigned)counts[2 * k] << 8 | counts[2 * k + 1];
 }
 
+static void print_refusal(uint32_t number)
+{
+    printf("refused %u: %s\n", (unsigned)number, planner_why(number));
+}
+
 static int wrong(const char *what)
 {
     printf("not as expected: %s\n", what);
@@ -37,7 +42,7 @@ int main(void)
                                    sizeof sparing_sheet, planned, sizeof planned);
 
     if (number != PLANNER_OK) {
-        printf("refused %u\n", (unsigned)number);
+        print_refusal(number);
         return 1;
     }
     unsigned mark = number_at(planned, 0), length = number_at(planned, 1);
@@ -57,11 +62,18 @@ int main(void)
             return wrong("a number of the plans");
     if (length != sizeof run_sheet || memcmp(sheet, run_sheet, length) != 0)
         return wrong("the sheet");
-    if (planner_check(ticket, sizeof ticket, sheet, length, checked, sizeof checked) != PLANNER_OK)
+    number = planner_check(ticket, sizeof ticket, sheet, length, checked, sizeof checked);
+    if (number != PLANNER_OK) {
+        print_refusal(number);
         return wrong("the check refuses the sheet");
+    }
     if (memcmp(checked, plan, sizeof checked) != 0)
         return wrong("the check's rounds and fetches");
-    if (planner_check(ticket, sizeof ticket, sheet, length - 1, checked, sizeof checked) != PLANNER_SHEET_ENDS)
-        return wrong("a sheet that is cut passes");
+
+    number = planner_check(ticket, sizeof ticket, sheet, length - 1, checked, sizeof checked);
+    if (number != PLANNER_SHEET_ENDS)
+        return wrong("the number for a sheet that is cut");
+    printf("without its last byte: ");
+    print_refusal(number);
     return 0;
 }

@@ -1,6 +1,6 @@
 /* plan_sheet.c - reads a ticket from standard input and writes the sheet to run to standard output.
  *
- * Exit 1 with a line on standard error if the ticket is refused, 2 if reading or writing fails. */
+ * Exit 1 if the ticket is refused, with a line on standard error that says why; 2 if reading or writing fails. */
 #include <planner.h>
 
 #include <stdio.h>
@@ -20,7 +20,7 @@ int main(void)
     uint32_t number = planner_plan(ticket, n, sheets[0], sizeof sheets[0], sheets[1], sizeof sheets[1], counts, sizeof counts);
 
     if (number != PLANNER_OK) {
-        fprintf(stderr, "refused %u\n", (unsigned)number);
+        fprintf(stderr, "refused %u: %s\n", (unsigned)number, planner_why(number));
         return 1;
     }
     unsigned mark = (unsigned)counts[0] << 8 | counts[1];     /* 0: the short sheet, 1: the sparing one */

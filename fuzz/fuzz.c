@@ -22,6 +22,13 @@ static void must(bool good, const char *what)
     abort();
 }
 
+static void same_number(uint32_t have, unsigned want, const char *what)
+{
+    if (have != want)
+        fprintf(stderr, "library %lu: %s\nreference %u: %s\n", (unsigned long)have, planner_why(have), want, planner_why(want));
+    must(have == want, what);
+}
+
 /* ---- Lent slices ---- */
 
 struct lent {
@@ -75,7 +82,7 @@ static void try_check(const struct input *in, const uint8_t *sheet, size_t sheet
     unsigned want = ref_check(t.want + GUARD, t.len, s.want + GUARD, s.len, &counts);
     uint32_t have = planner_check(t.have + GUARD, t.len, s.have + GUARD, s.len, c.have + GUARD, c.len);
 
-    must(have == want, "the check's number");
+    same_number(have, want, "the check's number");
     if (want == 0) {
         ref_checked_numbers(&counts, numbers);
         ref_fill_counts(numbers, REF_CHECKED_NUMBERS, c.want + GUARD, c.len);
@@ -101,7 +108,7 @@ static unsigned try_plan(const struct input *in, const size_t length[2])
     unsigned want = ref_plan(t.want + GUARD, t.len, s.want + GUARD, s.len, p.want + GUARD, p.len, &planned);
     uint32_t have = planner_plan(t.have + GUARD, t.len, s.have + GUARD, s.len, p.have + GUARD, p.len, c.have + GUARD, c.len);
 
-    must(have == want, "planning's number");
+    same_number(have, want, "planning's number");
     if (want == 0) {
         ref_planned_numbers(&planned, numbers);
         ref_fill_counts(numbers, REF_PLANNED_NUMBERS, c.want + GUARD, c.len);

@@ -6,11 +6,12 @@
  *   planner_plan    makes two plans of a job: the short one (P-MIN), which takes the fewest rounds, and the sparing one (P-CON), which takes the
  *                   fewest fetches on every disk; and says which one to run: the sparing one exactly when both take equally many rounds.
  *   planner_check   passes a sheet exactly if it is a valid schedule of the ticket, whoever drew it up.
+ *   planner_why     gives the sentence for a number that they return. It is plain C, in this header, and not proved.
  *
  * A ticket is a job as bytes, a sheet a schedule as bytes. No sheet that planner_check passes for a ticket takes fewer rounds than the short plan,
  * or on any disk fewer fetches than the sparing plan. This, each result and every byte written are proved of the source; the compiler is trusted.
  *
- * Rules for every call:
+ * Rules for planner_plan and planner_check:
  *   - Each slice is a pointer and a length in bytes. A pointer may be null only with the length 0.
  *   - Slices that a call writes must not overlap each other or any other slice of the call.
  *   - The calls keep nothing, allocate nothing, and may be made from several threads at once. A planning call takes some 140 KB of stack,
@@ -33,31 +34,58 @@ extern "C" {
 #define PLANNER_PLAN_COUNTS 40        /* what planner_plan writes to `counts` */
 #define PLANNER_CHECK_COUNTS 18       /* what planner_check writes to `counts` */
 
-/* Why a call is refused. Fields are read in order, and the first condition that is met counts. */
+/* Why a call is refused; planner_why has the sentence for each. Fields are read in order, and the first condition that is met counts. */
 enum planner_number {
-    PLANNER_OK = 0,                   /* not refused */
+    PLANNER_OK = 0,
     /* the ticket, in either call */
-    PLANNER_TICKET_ENDS = 1,          /* it ends inside a field that is due */
-    PLANNER_TICKET_DISKS = 2,         /* disks: not 1 to 8 */
-    PLANNER_TICKET_SLOTS = 3,         /* slots of a disk: not 1 to 64 */
-    PLANNER_TICKET_BLOCKS = 4,        /* blocks: not 1 to 512 */
-    PLANNER_TICKET_BLOCK_DISK = 5,    /* a block lies on a disk that the job has not */
-    PLANNER_TICKET_REFERENCES = 6,    /* references: more than 2048 */
-    PLANNER_TICKET_REFERENCE = 7,     /* a reference to a block that the job has not */
-    PLANNER_TICKET_CLOSING = 8,       /* closing bits that are not zero, or a byte after them */
+    PLANNER_TICKET_ENDS = 1,
+    PLANNER_TICKET_DISKS = 2,
+    PLANNER_TICKET_SLOTS = 3,
+    PLANNER_TICKET_BLOCKS = 4,
+    PLANNER_TICKET_BLOCK_DISK = 5,
+    PLANNER_TICKET_REFERENCES = 6,
+    PLANNER_TICKET_REFERENCE = 7,
+    PLANNER_TICKET_CLOSING = 8,
     /* the sheet, in planner_check */
-    PLANNER_SHEET_ENDS = 9,           /* it ends inside a field that is due */
-    PLANNER_SHEET_ROUNDS = 10,        /* rounds: more than 2048 */
-    PLANNER_SHEET_FETCHED = 11,       /* a fetched block that is not one of that disk's blocks */
-    PLANNER_SHEET_RESIDENT = 12,      /* a fetched block that is already in the buffer */
-    PLANNER_SHEET_FULL = 13,          /* nothing is discarded though every slot is taken */
-    PLANNER_SHEET_DISCARDED = 14,     /* a discarded block that is not in that disk's buffer */
-    PLANNER_SHEET_UNFINISHED = 15,    /* references are left after the last round */
-    PLANNER_SHEET_CLOSING = 16,       /* closing bits that are not zero, or a byte after them */
+    PLANNER_SHEET_ENDS = 9,
+    PLANNER_SHEET_ROUNDS = 10,
+    PLANNER_SHEET_FETCHED = 11,
+    PLANNER_SHEET_RESIDENT = 12,
+    PLANNER_SHEET_FULL = 13,
+    PLANNER_SHEET_DISCARDED = 14,
+    PLANNER_SHEET_UNFINISHED = 15,
+    PLANNER_SHEET_CLOSING = 16,
     /* the rooms, in planner_plan */
-    PLANNER_SHORT_ROOM = 17,          /* the short sheet has more bytes than its buffer */
-    PLANNER_SPARING_ROOM = 18         /* the sparing sheet has more bytes than its buffer */
+    PLANNER_SHORT_ROOM = 17,
+    PLANNER_SPARING_ROOM = 18
 };
+
+/* The sentence for a number, to be printed after it: at most 80 characters, without a full stop. It is not to be changed or freed. */
+static inline const char *planner_why(uint32_t number)
+{
+    switch (number) {
+    case PLANNER_OK:                return "the call is not refused";
+    case PLANNER_TICKET_ENDS:       return "the ticket ends inside a field that is due";
+    case PLANNER_TICKET_DISKS:      return "the job has no disks, or more than 8";
+    case PLANNER_TICKET_SLOTS:      return "a disk has no slots, or more than 64";
+    case PLANNER_TICKET_BLOCKS:     return "the job has no blocks, or more than 512";
+    case PLANNER_TICKET_BLOCK_DISK: return "a block lies on a disk that the job has not";
+    case PLANNER_TICKET_REFERENCES: return "the job has more than 2048 references";
+    case PLANNER_TICKET_REFERENCE:  return "a reference is to a block that the job has not";
+    case PLANNER_TICKET_CLOSING:    return "the ticket's closing bits are not all zero, or a byte follows them";
+    case PLANNER_SHEET_ENDS:        return "the sheet ends inside a field that is due";
+    case PLANNER_SHEET_ROUNDS:      return "the sheet has more than 2048 rounds";
+    case PLANNER_SHEET_FETCHED:     return "a disk fetches a block that is not one of its own";
+    case PLANNER_SHEET_RESIDENT:    return "a disk fetches a block that is already in its buffer";
+    case PLANNER_SHEET_FULL:        return "a disk fetches a block and discards nothing, though every slot is taken";
+    case PLANNER_SHEET_DISCARDED:   return "a disk discards a block that is not in its buffer";
+    case PLANNER_SHEET_UNFINISHED:  return "references are left after the last round";
+    case PLANNER_SHEET_CLOSING:     return "the sheet's closing bits are not all zero, or a byte follows them";
+    case PLANNER_SHORT_ROOM:        return "the short sheet has more bytes than its buffer";
+    case PLANNER_SPARING_ROOM:      return "the sparing sheet has more bytes than its buffer";
+    default:                        return "no call returns this number";
+    }
+}
 
 /* Plans a ticket.
  *

@@ -151,6 +151,7 @@ static void compare(enum call call, uint32_t have, unsigned want, struct lent *s
         run.lengths[call][slices[how_many - 1].len]++;
     if (have != want) {
         printf("DISAGREE: number: library %" PRIu32 ", reference %u\n", have, want);
+        printf("  library: %s\n  reference: %s\n", planner_why(have), planner_why(want));
         fail(call, slices, how_many);
     }
     for (unsigned k = 0; k < how_many; k++)

@@ -9,7 +9,7 @@ use lib.ListN.{length, getD, set, length-take}
 use lib.Seq.{getD-take}
 use Rattle.model.specs.Job.{Job, diskCount, refCount, slotsOf, refAt}
 use Rattle.model.specs.Playing.{idle, fetch, replace, State}
-use Rattle.model.specs.Rules.{Choice as Chosen, overMinBlock, action, distance, distanceNow}
+use Rattle.model.specs.Rules.{Choice as RuleChoice, overMinBlock, action, distance, distanceNow}
 use Rattle.model.specs.Valid.{Ready}
 use Rattle.model.proofs.Distances.{distance-to}
 use Rattle.model.proofs.Choosing.{nothing, into, sooner, waiting, over, RuleView}
@@ -26,7 +26,7 @@ use Rattle.acting.proofs.Stepping.{start-right, start-load, mid-few}
 use Rattle.acting.proofs.Acted.{lawful-of, step-idle, step-into, step-over}
 
 -- a rule that replaces the min-block finds it no sooner than U
-over-far : (j : Job) (s : State) (d u v : ℕ) (c : Chosen) → RuleView j s d c → c ≡ overMinBlock u v → distanceNow j s u ≤ distanceNow j s v
+over-far : (j : Job) (s : State) (d u v : ℕ) (c : RuleChoice) → RuleView j s d c → c ≡ overMinBlock u v → distanceNow j s u ≤ distanceNow j s v
 over-far j s d u v c (nothing h) e = let z : _≡_ {A = ℕ} 0 1 = cc in absurd (omega arith)
 over-far j s d u v c (into x n l) e = let z : _≡_ {A = ℕ} 0 1 = cc in absurd (omega arith)
 over-far j s d u v c (sooner x y n f l p) e = let z : _≡_ {A = ℕ} 0 1 = cc in absurd (omega arith)

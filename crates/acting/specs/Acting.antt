@@ -17,7 +17,7 @@ use Rattle.writing.specs.Writing.{actionOf}
 
 -- the job and the state that a function's arguments say
 abbrev pub jobWith : ℕ → List ℕ → ℕ → List ℕ → List ℕ → Job
-jobWith disks slots blocks disk refs = record { slots = take disks slots; disks = take blocks disk; refs = refs }
+jobWith disks slots blocks disk refs = record { slots = take disks slots; blockDisks = take blocks disk; refs = refs }
 
 abbrev pub stateOf : Buffers → ℕ → State
 stateOf b round = record { resident = b .resident; next = b .next; round = round }

@@ -11,8 +11,9 @@ use lib.ListN.{length, take, drop, getD, set, replicate, length-append, length-d
 use lib.Seq.{length-take-le, take-suc, drop-cons, append-snoc, take-append-seam, drop-drop, drop-append-le, set-at, set-out}
 use borrow.Author.Tests.{ltb-true, ltb-false, leb-true, leb-false}
 use Rattle.bits.specs.Bits.{bits, leading, bytes, bytesFor, pack, over, laid}
-use Rattle.bits.specs.Reading.{field}
+use Rattle.bits.specs.Reading.{Read, stop, Reader, bind, _>>=_, field}
 use Rattle.bits.specs.Fields.{pickField, fieldAt, readOf, putBit, putBits, clearFrom, laidAt}
+use Rattle.bits.specs.declared.Field.{Field}
 use Rattle.bits.specs.declared.Field.the-variants.{Value, Ended}
 use Rattle.bits.proofs.Logic.{by-test}
 use Rattle.bits.proofs.Bits.{Bits, bits-are, drop-bits, length-bits, length-bytes, bits-bytes}
@@ -31,6 +32,16 @@ field-reads n w at s p =
     (λ t. let h = leb-true (at + w) (length s * 8) t in
     rw (t, ← drop-drop w at (bits s)) (fieldAfter-reads n w 0 l (omega arith)))
     (λ t. let h = leb-false (at + w) (length s * 8) t in rw t (fieldAfter-stops n w 0 l (omega arith)))
+
+-- A reader that reads a field and goes on gives what the field at `at` leads to.
+pub field-then : {A : Type 0} (n w at : ℕ) (s : List ℕ) (f : ℕ → Reader A) (r : Field → Read A) → 0 < w → stop n ≡ r Ended
+    → ((v : ℕ) → f v (drop (at + w) (bits s)) ≡ r (Value v)) → (field n w >>= f) (drop at (bits s)) ≡ r (fieldAt s at w)
+unfolding _>>=_ bind readOf
+field-then n w at s f r p e h = rw (field-reads n w at s p) (go (fieldAt s at w))
+  where
+    go : (x : Field) → bind (readOf n (drop (at + w) (bits s)) x) f ≡ r x
+    go (Value v) = h v
+    go Ended = e
 
 -- Its value is a number of w binary digits.
 pub field-below : (w at : ℕ) (s : List ℕ) {v : ℕ} → fieldAt s at w ≡ Value v → v < 2 ^ w
@@ -137,17 +148,37 @@ over-more i s lent p q =
 
 -- Writing as far as a slice reaches.
 
-pub laid-nil : (lent : List ℕ) → laid [] lent ≡ lent
+laid-empty : (s : List ℕ) → laid s [] ≡ []
 unfolding laid
-laid-nil lent = refl
+laid-empty [] = refl
+laid-empty (x ∷ s) = refl
+
+pub laidAt-nil : (k : ℕ) (lent : List ℕ) → laidAt k [] lent ≡ lent
+unfolding laidAt
+laidAt-nil zero lent = refl
+laidAt-nil (suc k) [] = refl
+laidAt-nil (suc k) (y ∷ lent) = ap (λ (l : List ℕ). y ∷ l) (laidAt-nil k lent)
 
 -- one string, and then another after it
-pub laid-more : (s t lent : List ℕ) → laidAt (length s) t (laid s lent) ≡ laid (s ++ t) lent
+pub laid-then : (k n : ℕ) (s t lent : List ℕ) → n ≡ k + length s → laidAt n t (laidAt k s lent) ≡ laidAt k (s ++ t) lent
 unfolding laidAt
-laid-more [] t lent = refl
-laid-more (x ∷ s) [] [] = refl
-laid-more (x ∷ s) (y ∷ t) [] = refl
-laid-more (x ∷ s) t (y ∷ lent) = ap (λ (l : List ℕ). x ∷ l) (laid-more s t lent)
+laid-then zero zero [] t lent e = refl
+laid-then zero (suc n) [] t lent e = absurd (omega arith)
+laid-then zero zero (x ∷ s) t lent e = absurd (omega arith)
+laid-then zero (suc n) (x ∷ s) t [] e = laid-empty t
+laid-then zero (suc n) (x ∷ s) t (y ∷ lent) e = ap (λ (l : List ℕ). x ∷ l) (laid-then zero n s t lent (omega arith))
+laid-then (suc k) zero s t lent e = absurd (omega arith)
+laid-then (suc k) (suc n) s t [] e = rw (laid-empty s, laid-empty t, laid-empty (s ++ t))
+laid-then (suc k) (suc n) s t (y ∷ lent) e = ap (λ (l : List ℕ). y ∷ l) (laid-then k n s t lent (omega arith))
+
+-- the slice keeps its length
+pub length-laid : (k : ℕ) (s lent : List ℕ) → length (laidAt k s lent) ≡ length lent
+unfolding laidAt
+length-laid zero [] lent = refl
+length-laid zero (x ∷ s) [] = refl
+length-laid zero (x ∷ s) (y ∷ lent) = ap suc (length-laid zero s lent)
+length-laid (suc k) s [] = ap length (laid-empty s)
+length-laid (suc k) s (y ∷ lent) = ap suc (length-laid k s lent)
 
 -- two bytes are two stores; one past the end changes nothing
 laid-stores : (k x y : ℕ) (lent : List ℕ) → laidAt k (x ∷ y ∷ []) lent ≡ set (set lent k x) (suc k) y

@@ -4,7 +4,7 @@ use mathlib.Core.List.{List, [], _∷_}
 use Prim.Native.Nat.{ℕ, zero, suc, _≤_, _<_}
 use native.Mathlib.Omega.{arith}
 use native.Mathlib.Nat.{le-of-suc-le-suc, not-suc-le-zero}
-use lib.ListN.{length, getD}
+use lib.ListN.{length, getD, replicate}
 use mathlib.Core.Bool.{Bool, true, false, _&&_, _||_, true≢false}
 
 -- by the value of a test
@@ -64,3 +64,14 @@ unfolding Each
 each-at Q [] h i d p = absurd (not-suc-le-zero p)
 each-at Q (a ∷ l) h zero d p = h .0
 each-at Q (a ∷ l) h (suc i) d p = each-at Q l (h .1) i d (le-of-suc-le-suc p)
+
+pub at-each : {A : Type 0} (Q : A → Type 0) (l : List A) (d : A) → ((i : ℕ) → i < length l → Q (getD l i d)) → Each Q l
+unfolding Each
+at-each Q [] d h = tt
+at-each Q (a ∷ l) d h = (h 0 (omega arith), at-each Q l d (λ i p. h (suc i) (omega (arith, p))))
+
+-- a list of one value has it at every place, and by default past its end
+pub getD-same : {A : Type 0} (n i : ℕ) (x : A) → getD (replicate n x) i x ≡ x
+getD-same zero i x = refl
+getD-same (suc n) zero x = refl
+getD-same (suc n) (suc i) x = getD-same n i x

@@ -1,16 +1,15 @@
 -- What is known of a reader that gave a value: each law takes one step apart and hands its parts to what follows. Assumes nothing.
-use mathlib.Core.Path.{_≡_, refl, ap, _∙_, subst}
+use mathlib.Core.Path.{_≡_, refl, ap, ap₂, _∙_}
 use mathlib.Core.Bool.{Bool, true, false, cond, _&&_}
 use mathlib.Core.List.{List, [], _∷_}
 use Prim.Native.Nat.{ℕ, zero, suc, _+_, _*_, _<_}
-use native.Mathlib.Nat.{suc-mul}
 use native.Mathlib.Omega.{arith}
-use lib.Dec.{ltb}
-use lib.ListN.{length}
-use borrow.Author.Tests.{ltb-true, lt-ltb}
+use lib.Dec.{eqb, ltb}
+use lib.ListN.{length, replicate, length-replicate}
+use borrow.Author.Tests.{eqb-true, ltb-true, lt-ltb}
 use Rattle.bits.specs.Bits.{bits}
-use Rattle.bits.specs.Reading.{given, refused, Read, got, stop, Reader, bind, _>>=_, _>>_, give, fieldAfter, field, refuseIf, many, allZero, isClosed, closing, answer, readAll}
-use Rattle.bits.proofs.Logic.{by-test, and-left, and-right, Each}
+use Rattle.bits.specs.Reading.{given, refused, Read, got, stop, Reader, bind, _>>=_, _>>_, give, fieldAfter, field, refuseIf, allZero, isClosed, closing, answer, readAll}
+use Rattle.bits.proofs.Logic.{by-test, and-left, and-right}
 
 -- a refusal is no value
 pub stop-got : {A P : Type 0} {n : ℕ} {a : A} {l : List ℕ} → stop n ≡ got a l → P
@@ -79,27 +78,6 @@ readAll-given {A} {P} r s {a} e k = go (r (bits s)) refl e
     go (got b rest) q p = let same : b ≡ a = cc in k rest (q ∙ ap (λ (z : A). got z rest) same)
     go (stop n) q p = refused-given p
 
--- A reader that takes w bits, and whose value has the property Q.
-pub record Takes {A : Type 0} (w : ℕ) (Q : A → Type 0) (r : Reader A) : Type 0 where
-  pub taken : (l : List ℕ) (a : A) (rest : List ℕ) → r l ≡ got a rest → (length l ≡ w + length rest) × Q a
-
--- k such readings take k times the bits, and every value has the property
-pub many-takes : {A : Type 0} {w : ℕ} {Q : A → Type 0} (r : Reader A) → Takes w Q r → (k : ℕ) (l : List ℕ) {as′ : List A} {rest : List ℕ}
-    → many k r l ≡ got as′ rest → (length as′ ≡ k) × (length l ≡ k * w + length rest) × Each Q as′
-unfolding many Each
-many-takes {w = w} {Q} r t zero l e =
-    give-got e λ p q. let n = ap length p in let m = ap length q in (omega (arith, n), omega (arith, m), subst (Each Q) p tt)
-many-takes {A} {w} {Q} r t (suc k) l {as′} {rest} e =
-    bind-got r (λ a. many k r >>= λ more. give (a ∷ more)) l e λ a after ea e′.
-    bind-got (many k r) (λ more. give (a ∷ more)) after e′ λ more last em e″.
-    let one = t .taken l a after ea in
-    let ih = many-takes r t k after em in
-    give-got e″ λ p q.
-    let n = ap length p in
-    let m = ap length q in
-    let s = suc-mul k w in
-    (omega (arith, n, ih .0), omega (arith, m, s, one .0, ih .1), subst (Each Q) p (one .1, ih .2))
-
 -- the other way: a step whose first part gives a value goes on with it
 pub bind-ok : {A B : Type 0} (m : Reader A) (f : A → Reader B) (l : List ℕ) {a : A} {after : List ℕ} → m l ≡ got a after → (m >>= f) l ≡ f a after
 unfolding _>>=_ bind
@@ -116,6 +94,22 @@ refuse-ok n t l e = rw e
 pub closing-ok : (n : ℕ) (l : List ℕ) → length l < 8 → allZero l ≡ true → closing n l ≡ got tt []
 unfolding closing isClosed
 closing-ok n l p z = let e : ltb (length l) 8 && allZero l ≡ true = rw (lt-ltb (length l) 8 p, z) in rw (e, closing)
+
+-- zeros are written and read as the end
+
+pub zero-list : (l : List ℕ) → allZero l ≡ true → l ≡ replicate (length l) 0
+unfolding allZero
+zero-list [] e = refl
+zero-list (b ∷ l) e =
+    ap₂ (λ (x : ℕ) (m : List ℕ). x ∷ m) (eqb-true b 0 (and-left (eqb b 0) (allZero l) e)) (zero-list l (and-right (eqb b 0) (allZero l) e))
+
+zeros-are : (k : ℕ) → allZero (replicate k 0) ≡ true
+unfolding allZero
+zeros-are zero = refl
+zeros-are (suc k) = zeros-are k
+
+pub closing-zeros : (n k : ℕ) → k < 8 → closing n (replicate k 0) ≡ got tt []
+closing-zeros n k h = closing-ok n (replicate k 0) (let l = length-replicate {A = ℕ} k 0 in omega (arith, l)) (zeros-are k)
 
 -- what a reader of the end makes of it
 pub closing-is : (n : ℕ) (l : List ℕ) → closing n l ≡ cond (isClosed l) (got tt []) (stop n)

@@ -9,6 +9,12 @@ unfoldable pub digits : ℕ → ℕ → List ℕ
 digits zero v = []
 digits (suc w) v = (v / 2 ^ w % 2) ∷ digits w v
 
+-- Numbers as fields of w bits each, one after the other.
+unfoldable pub fields : ℕ → List ℕ → List ℕ
+unfolding digits
+fields w [] = []
+fields w (v ∷ more) = digits w v ++ fields w more
+
 -- The bits of a string of bytes.
 unfoldable pub bits : List ℕ → List ℕ
 unfolding digits

@@ -3,11 +3,10 @@
 // followed by ` = ` and what it gives, in the vectors' form.
 use libc::STDIN_FILENO;
 use libc::STDOUT_FILENO;
+use planner::Counts;
 use planner::Mark;
-use planner::Planned;
 ghost use Prim.Native.Nat.{_≤_, _<_};
-ghost use lib.ListN.{length};
-ghost use Rattle.io.specs.Counts.{Counts};
+ghost use Rattle.io.specs.Counts.{Counts as Within};
 
 // What both lent buffers are filled with before a call.
 const FILL: u8 = 165;
@@ -65,7 +64,7 @@ fn digit(b: u8) -> u8
 
 // Reads a word of hexadecimal digits, or `-`, and the byte that ends it; how many bytes it put at the start of `out`.
 fn read_bytes(out: &mut [u8]) -> usize
-    ensures { λ r. ⌜ Counts r (now (out .exit)) ⌝ }
+    ensures { λ r. ⌜ Within r (now (out .exit)) ⌝ }
 {
     let mut n = 0;
     while n < out.len() {
@@ -114,72 +113,100 @@ fn write_counts(rounds: usize, fetches: [u16; 8]) {
     }
 }
 
-// How many bytes at the start of a buffer there are up to the last that is not as it was filled.
-fn changed(lent: &[u8]) -> usize
-    ensures { λ r. ⌜ r ≤ length (now (lent .entry)) ⌝ }
-{
+// The start of a buffer up to the last byte that is not as it was filled: the whole sheet, unless that ends in the byte `FILL`.
+fn changed<'a>(lent: &'a [u8]) -> &'a [u8] {
     let mut n = lent.len();
     while n > 0 {
         if lent[n - 1] != FILL {
-            return n;
+            return &lent[..n];
         }
         n -= 1;
     }
-    0
+    &lent[..0]
 }
 
 fn write_byte(b: u8) {
     io::print_hex(STDOUT_FILENO, b as u64, 2);
 }
 
-// The bytes of a buffer up to the last that is not as it was filled: the whole sheet, unless that ends in the byte `FILL`.
-fn write_changed(lent: &[u8]) {
-    let n = changed(lent);
+fn write_bytes(s: &[u8]) {
     let mut i = 0;
-    while i < n {
-        write_byte(lent[i]);
+    while i < s.len() {
+        write_byte(s[i]);
         i += 1;
     }
 }
 
-// What planning gives but for the sheets. `length` is that of the part handed out.
-fn write_planned(p: Planned, length: usize) {
-    let mark = p.mark;
-    match mark {
-        Mark::Missing => write(b" -"),
-        Mark::Short => write(b" 0"),
-        Mark::Sparing => write(b" 1"),
+// The mark and the length of the part that was handed out. Its bytes are compared with what was written to the marked buffer.
+fn write_part(mark: &[u8], part: &[u8], sheet: &[u8]) {
+    write(mark);
+    write_number(part.len());
+    if !check::same(part, sheet) {
+        write(b" of other bytes");
     }
-    write_number(length);
-    let a = p.short;
-    let f = a.fetches;
-    write(b" |");
-    write_counts(a.rounds, f);
-    let b = p.sparing;
-    let g = b.fetches;
-    write(b" |");
-    write_counts(b.rounds, g);
-    write(b" | ");
 }
 
-// Plans a ticket into two filled buffers. After a refusal they are as they were filled, so nothing of them is written.
+// The rounds and fetches of a plan.
+fn write_plan(plan: Counts) {
+    let fetches = plan.fetches;
+    write(b" |");
+    write_counts(plan.rounds, fetches);
+}
+
+// Whether a count is not 0.
+fn some_count(rounds: usize, fetches: [u16; 8]) -> bool {
+    let mut found = rounds != 0;
+    let mut d = 0;
+    while d < 8 {
+        if fetches[d] != 0 {
+            found = true;
+        }
+        d += 1;
+    }
+    found
+}
+
+// The counts of a refused call, if they are not all 0: then nothing is written.
+fn write_left(rounds: usize, fetches: [u16; 8]) {
+    if some_count(rounds, fetches) {
+        write_counts(rounds, fetches);
+    }
+}
+
+// Plans a ticket into two filled buffers. After a refusal they are as they were filled, the part is empty and all counts are 0, so nothing of them is
+// written.
 fn plan_into(ticket: &[u8], short: &mut [u8], sparing: &mut [u8]) {
     let p = planner::plan(ticket, short, sparing);
     write_number(p.number);
-    if p.number != 0 {
-        write_changed(short);
-        write_changed(sparing);
-        return;
+    let part = planner::part(short, sparing, p);
+    let a = p.short;
+    let b = p.sparing;
+    let mark = p.mark;
+    match mark {
+        Mark::Unmarked => {
+            let f = a.fetches;
+            let g = b.fetches;
+            write_left(a.rounds, f);
+            write_left(b.rounds, g);
+            write_bytes(part);
+            write_bytes(changed(short));
+            write_bytes(changed(sparing));
+            return;
+        }
+        Mark::Short => write_part(b" 0", part, changed(short)),
+        Mark::Sparing => write_part(b" 1", part, changed(sparing)),
     }
-    write_planned(p, planner::part(short, sparing, p).len());
-    write_changed(short);
+    write_plan(a);
+    write_plan(b);
     write(b" | ");
-    write_changed(sparing);
+    write_bytes(changed(short));
+    write(b" | ");
+    write_bytes(changed(sparing));
 }
 
 // As many bytes of a buffer as there are, at most n.
 fn within(n: usize, lent: &[u8]) -> usize
-    ensures { λ r. ⌜ Counts r (now (lent .entry)) ⌝ }
+    ensures { λ r. ⌜ Within r (now (lent .entry)) ⌝ }
 {
     if n < lent.len() {
         return n;
@@ -208,9 +235,11 @@ fn check_line() {
     write(b" =");
     let c = planner::check(&ticket[..n], &sheet[..m]);
     write_number(c.number);
+    let f = c.fetches;
     if c.number == 0 {
-        let f = c.fetches;
         write_counts(c.rounds, f);
+    } else {
+        write_left(c.rounds, f);
     }
 }
 

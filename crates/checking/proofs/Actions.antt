@@ -1,41 +1,34 @@
--- One action: what stands at a position is what the reader of the model reads there, and an action that was read can be played. Assumes nothing.
-use mathlib.Core.Path.{_≡_, refl, ap, _∙_}
-use mathlib.Core.Bool.{Bool, cond, not, _||_}
-use mathlib.Core.List.{List, [], _∷_}
+-- One action: what stands at a position is what the reader of the model reads there. Assumes nothing.
+use mathlib.Core.Path.{_≡_, refl}
+use mathlib.Core.Bool.{Bool, not, _&&_, _||_}
+use mathlib.Core.List.{List}
 use Prim.Native.Nat.{ℕ, zero, suc, _+_, _<_}
 use native.Mathlib.Omega.{arith}
 use lib.Dec.{ltb, leb, eqb}
 use lib.ListN.{getD, drop}
-use borrow.Author.Tests.{ltb-true, leb-false, ne-eqb}
+use borrow.Author.Tests.{ltb-true, ltb-false, lt-leb, le-leb, ne-eqb}
 use Rattle.bits.specs.Bits.{bits}
-use Rattle.bits.specs.Reading.{Read, got, stop, Reader, bind, _>>=_, _>>_, give, field, refuseIf}
-use Rattle.bits.specs.Fields.{fieldAt, readOf}
-use Rattle.bits.specs.declared.Field.{Field}
-use Rattle.bits.specs.declared.Field.the-variants.{Value, Ended}
+use Rattle.bits.specs.Reading.{Reader, bind, _>>=_, _>>_, give, field, refuseIf}
+use Rattle.bits.specs.Fields.{fieldAt}
+use Rattle.bits.specs.declared.Field.the-variants.{Value}
 use Rattle.bits.proofs.Logic.{by-test}
-use Rattle.bits.proofs.Bits.{Bits}
-use Rattle.bits.proofs.Fields.{field-reads}
+use Rattle.bits.proofs.Fields.{field-then}
 use Rattle.model.specs.Job.{Job, blockCount, slotsOf, diskOf}
-use Rattle.model.specs.Playing.{Action, idle, fetch, replace, isResident, load, act}
-use Rattle.model.specs.Sheet.{holds, discardReader, fetchReader, actionReader, roundReader}
-use Rattle.model.specs.Valid.{Legal, LegalAll}
-use Rattle.model.proofs.Sheets.{Room, RoomAll, round-read}
-use Rattle.checking.specs.Checking.{onField, notOn, heldOn, discardAt, actionAt}
+use Rattle.model.specs.Playing.{Action, replace, isResident, load}
+use Rattle.model.specs.Sheet.{holds, discardReader, fetchReader, actionReader}
+use Rattle.checking.specs.Checking.{onBit, isOn, namedOf, fetchedBy, discardedBy, discardAt, actionAt, actRead}
 use Rattle.checking.specs.declared.Act.{Act}
-use Rattle.checking.specs.declared.Act.the-variants.{Idle, Fetch, Replace, Refused}
 
--- An action that starts at the bit `at`, as a reader gives it: with the bits after it, or its refusal.
-unfoldable pub actRead : List ℕ → ℕ → Act → Read Action
-actRead s at Idle = got idle (drop (at + 1) (bits s))
-actRead s at (Fetch x) = got (fetch x) (drop (at + 11) (bits s))
-actRead s at (Replace x z) = got (replace x z) (drop (at + 20) (bits s))
-actRead s at (Refused n) = stop n
-
--- a field at a position, and what follows it
-field-then : {A : Type 0} (n w at : ℕ) (s : List ℕ) (f : ℕ → Reader A) → 0 < w
-    → (field n w >>= f) (drop at (bits s)) ≡ bind (readOf n (drop (at + w) (bits s)) (fieldAt s at w)) f
-unfolding _>>=_
-field-then n w at s f p = ap (λ (r : Read ℕ). bind r f) (field-reads n w at s p)
+-- A bit that is due, at `at` in the action that starts at `start`.
+due-bit : (at start : ℕ) (s : List ℕ) (f : ℕ → Reader Action) (a b : Act)
+    → f 0 (drop (at + 1) (bits s)) ≡ actRead s start a → ((k : ℕ) → f (suc k) (drop (at + 1) (bits s)) ≡ actRead s start b)
+    → (field 9 1 >>= f) (drop at (bits s)) ≡ actRead s start (onBit (fieldAt s at 1) a b)
+unfolding actRead
+due-bit at start s f a b h g = field-then 9 1 at s f (λ x. actRead s start (onBit x a b)) (omega arith) refl go
+  where
+    go : (v : ℕ) → f v (drop (at + 1) (bits s)) ≡ actRead s start (onBit (Value v) a b)
+    go zero = h
+    go (suc k) = rw (ne-eqb (suc k) 0 (omega arith)) (g k)
 
 -- A job as `action` sees it: its blocks, the disk of each, and whether the slots of disk d are all taken.
 pub record Seen (j : Job) (marks : List Bool) (d blocks : ℕ) (disk : List ℕ) (full : Bool) : Type 0 where
@@ -44,89 +37,62 @@ pub record Seen (j : Job) (marks : List Bool) (d blocks : ℕ) (disk : List ℕ)
   pub taken : leb (slotsOf j d) (load j marks d) ≡ full
 
 module _ (j : Job) (marks : List Bool) (d blocks : ℕ) (disk : List ℕ) (full : Bool) (h : Seen j marks d blocks disk full) where
-  holds-seen : (z : ℕ) → holds j marks d z ≡ heldOn blocks disk marks d z
-  holds-seen z =
+  -- the model's tests of a block
+  on-seen : (x : ℕ) → ltb x (blockCount j) && eqb (diskOf j x) d ≡ isOn blocks disk d x
+  on-seen x =
       rw (h .allBlocks)
-      (by-test (ltb z blocks)
-      (λ t. rw (t, h .diskAt z (ltb-true z blocks t)))
+      (by-test (ltb x blocks)
+      (λ t. rw (t, h .diskAt x (ltb-true x blocks t)))
       (λ t. rw t))
 
-  elsewhere-seen : (x : ℕ) → leb (blockCount j) x || not (eqb (diskOf j x) d) ≡ notOn blocks disk d x
+  elsewhere-seen : (x : ℕ) → leb (blockCount j) x || not (eqb (diskOf j x) d) ≡ not (isOn blocks disk d x)
   elsewhere-seen x =
       rw (h .allBlocks)
-      (by-test (leb blocks x)
-      (λ t. rw t)
-      (λ t. rw (t, h .diskAt x (leb-false blocks x t))))
-
-  module _ (s : List ℕ) (start at x : ℕ) (e : at ≡ start + 10) where
-    -- the discarded block
-    replace-reads : (f : Field)
-        → bind (readOf 9 (drop (at + 1 + 9) (bits s)) f) (λ z. refuseIf 14 (not (holds j marks d z)) >> give (replace x z))
-        ≡ actRead s start (onField f λ z. cond (heldOn blocks disk marks d z) (Replace x z) (Refused 14))
-    unfolding bind readOf _>>_ refuseIf give actRead
-    replace-reads (Value z) =
-        let after : at + 1 + 9 ≡ start + 20 = omega arith in
-        rw (holds-seen z, after)
-        (by-test (heldOn blocks disk marks d z) (λ t. rw t) (λ t. rw t))
-    replace-reads Ended = refl
-
-    -- the bit before it
-    discard-reads : (f : Field)
-        → bind (readOf 9 (drop (at + 1) (bits s)) f) (discardReader j marks d x)
-        ≡ actRead s start (onField f λ bit. cond (eqb bit 0) (cond full (Refused 13) (Fetch x))
-        (onField (fieldAt s (at + 1) 9) λ z. cond (heldOn blocks disk marks d z) (Replace x z) (Refused 14)))
-    unfolding bind readOf _>>_ _>>=_ refuseIf give discardReader actRead
-    discard-reads (Value zero) =
-        let after : at + 1 ≡ start + 11 = omega arith in
-        rw (h .taken, after) (by-test full (λ t. rw t) (λ t. rw t))
-    discard-reads (Value (suc k)) =
-        rw (ne-eqb (suc k) 0 (omega arith))
-        (field-then 9 9 (at + 1) s (λ z. refuseIf 14 (not (holds j marks d z)) >> give (replace x z)) (omega arith)
-        ∙ replace-reads (fieldAt s (at + 1) 9))
-    discard-reads Ended = refl
+      (by-test (ltb x blocks)
+      (λ t. let l = ltb-true x blocks t in rw (t, lt-leb blocks x l, h .diskAt x l))
+      (λ t. rw (t, le-leb blocks x (ltb-false x blocks t))))
 
   module _ (s : List ℕ) (at : ℕ) where
-    -- the fetched block
-    fetched-reads : (f : Field)
-        → bind (readOf 9 (drop (at + 1 + 9) (bits s)) f) (λ x. refuseIf 11 (leb (blockCount j) x || not (eqb (diskOf j x) d))
-        >> (refuseIf 12 (isResident marks x) >> (field 9 1 >>= discardReader j marks d x)))
-        ≡ actRead s at (onField f λ x. cond (notOn blocks disk d x) (Refused 11)
-        (cond (isResident marks x) (Refused 12) (discardAt s (at + 10) blocks disk marks d x full)))
-    unfolding bind readOf _>>_ refuseIf actRead discardAt
-    fetched-reads (Value x) =
+    -- the discarded block z
+    replace-reads : (x z : ℕ) → (refuseIf 14 (not (holds j marks d z)) >> give (replace x z)) (drop (at + 10 + 1 + 9) (bits s))
+        ≡ actRead s at (discardedBy x (namedOf blocks disk marks d (Value z)))
+    unfolding bind _>>_ refuseIf give actRead namedOf
+    replace-reads x z =
+        let after : at + 10 + 1 + 9 ≡ at + 20 = omega arith in
+        rw (on-seen z, after)
+        (by-test (isOn blocks disk d z) (λ t. rw t (by-test (isResident marks z) (λ u. rw u) (λ u. rw u))) (λ t. rw t))
+
+    -- what follows the fetched block x
+    discard-reads : (x : ℕ) → (field 9 1 >>= discardReader j marks d x) (drop (at + 10) (bits s))
+        ≡ actRead s at (discardAt s (at + 10) blocks disk marks d x full)
+    unfolding bind _>>_ refuseIf give actRead discardReader discardAt
+    discard-reads x =
+        let after : at + 10 + 1 ≡ at + 11 = omega arith in
+        due-bit (at + 10) at s (discardReader j marks d x) _ _
+        (rw (h .taken, after) (by-test full (λ t. rw t) (λ t. rw t)))
+        (λ k. field-then 9 9 (at + 10 + 1) s _
+        (λ f. actRead s at (discardedBy x (namedOf blocks disk marks d f)))
+        (omega arith) refl (replace-reads x))
+
+    -- the fetched block x
+    fetch-reads : (x : ℕ)
+        → (refuseIf 11 (leb (blockCount j) x || not (eqb (diskOf j x) d))
+        >> (refuseIf 12 (isResident marks x) >> (field 9 1 >>= discardReader j marks d x))) (drop (at + 1 + 9) (bits s))
+        ≡ actRead s at (fetchedBy (namedOf blocks disk marks d (Value x)) λ x. discardAt s (at + 10) blocks disk marks d x full)
+    unfolding bind _>>_ refuseIf actRead namedOf
+    fetch-reads x =
         let after : at + 1 + 9 ≡ at + 10 = omega arith in
         rw (elsewhere-seen x, after)
-        (by-test (notOn blocks disk d x)
-        (λ t. rw t)
-        (λ t. rw t (by-test (isResident marks x)
-        (λ u. rw u)
-        (λ u. rw u (field-then 9 1 (at + 10) s (discardReader j marks d x) (omega arith)
-        ∙ discard-reads s at (at + 10) x refl (fieldAt s (at + 10) 1))))))
-    fetched-reads Ended = refl
-
-    -- the bit before it
-    action-goes : (f : Field)
-        → bind (readOf 9 (drop (at + 1) (bits s)) f) (fetchReader j marks d)
-        ≡ actRead s at (onField f λ bit. cond (eqb bit 0) Idle
-        (onField (fieldAt s (at + 1) 9) λ x. cond (notOn blocks disk d x) (Refused 11)
-        (cond (isResident marks x) (Refused 12) (discardAt s (at + 10) blocks disk marks d x full))))
-    unfolding bind readOf give fetchReader actRead
-    action-goes (Value zero) = refl
-    action-goes (Value (suc k)) =
-        rw (ne-eqb (suc k) 0 (omega arith)) (field-then 9 9 (at + 1) s _ (omega arith) ∙ fetched-reads (fieldAt s (at + 1) 9))
-    action-goes Ended = refl
+        (by-test (isOn blocks disk d x)
+        (λ t. rw t (by-test (isResident marks x) (λ u. rw u) (λ u. rw u (discard-reads x))))
+        (λ t. rw t))
 
     -- Where the reader stands at the bit `at`, it reads the action at `at`.
     pub action-reads : actionReader j marks d (drop at (bits s)) ≡ actRead s at (actionAt s at blocks disk marks d full)
-    unfolding actionReader actionAt
-    action-reads = field-then 9 1 at s (fetchReader j marks d) (omega arith) ∙ action-goes (fieldAt s at 1)
-
--- An action that was read is legal, and a fetch that discards nothing finds a slot empty.
-pub action-legal : (j : Job) (marks : List Bool) (d : ℕ) (l : List ℕ) (a : Action) (rest : List ℕ) → Bits l → actionReader j marks d l ≡ got a rest
-    → Legal j marks d a × Room j marks d a
-unfolding LegalAll RoomAll roundReader _>>=_ bind give
-action-legal j marks d l a rest b e =
-    let one : roundReader j 1 marks d l ≡ got (a ∷ []) rest =
-    ap (λ (x : Read Action). bind x (λ y. roundReader j 0 (act marks y) (suc d) >>= λ more. give (y ∷ more))) e in
-    let r = round-read j 1 marks d l (a ∷ []) rest b one in
-    (r .legal .0, r .room .0)
+    unfolding give fetchReader actionReader actionAt actRead
+    action-reads =
+        due-bit at at s (fetchReader j marks d) _ _
+        refl
+        (λ k. field-then 9 9 (at + 1) s _
+        (λ f. actRead s at (fetchedBy (namedOf blocks disk marks d f) λ x. discardAt s (at + 10) blocks disk marks d x full))
+        (omega arith) refl fetch-reads)

@@ -23,14 +23,14 @@ use Rattle.model.specs.Sheet.{actionReader}
 use Rattle.model.specs.Valid.{Block, Legal}
 use Rattle.model.specs.Calls.{Counts}
 use Rattle.model.proofs.Counting.{count-most}
-use Rattle.model.proofs.Sheets.{Room}
+use Rattle.model.proofs.Sheets.{Room, ActionRead, action-read}
 use Rattle.playing.specs.declared.Buffers.{Buffers}
 use Rattle.playing.specs.Playing.{emptyBuffers, fetchInto, replaceIn, consumeOne, Holds}
 use Rattle.playing.proofs.Laws.{holds-start, holds-same, holds-some, holds-fetch, holds-replace, holds-consume}
-use Rattle.checking.specs.Checking.{actionAt, counted, goOn, endOf, disksFrom, afterReading, roundsFrom, played}
+use Rattle.checking.specs.Checking.{actionAt, actRead, counted, goOn, endOf, disksFrom, afterReading, roundsFrom, played}
 use Rattle.checking.specs.declared.Act.{Act}
 use Rattle.checking.specs.declared.Act.the-variants.{Idle, Fetch, Replace, Refused}
-use Rattle.checking.proofs.Actions.{actRead, action-reads, action-legal}
+use Rattle.checking.proofs.Actions.{action-reads}
 
 -- The state of the model that the buffers hold in round k.
 abbrev pub stateOf : Buffers → ℕ → State
@@ -45,7 +45,7 @@ abbrev pub afterRound : Job → ℕ → ℕ → ℕ → ℕ → List Bool → Li
 afterRound j rounds left next round = λ marks. roundsFrom j rounds left (afterReading j marks next round)
 
 -- After at most n actions: the buffers hold a state of the job, and the position and the counts are within bounds.
-pub record Kept (c : Stored) (b : Buffers) (f : List ℕ) (at n : ℕ) : Type 0 where
+pub record Bounded (c : Stored) (b : Buffers) (f : List ℕ) (at n : ℕ) : Type 0 where
   pub holds : Holds (jobOf c) b (stateOf b 0)
   pub near : at ≤ 12 + 20 * n
   pub long : length f ≡ 8
@@ -54,24 +54,24 @@ pub record Kept (c : Stored) (b : Buffers) (f : List ℕ) (at n : ℕ) : Type 0 
 -- Before round k; within it, before disk d; and at its end, while references are read. `s` is the sheet, `rounds` its round count.
 pub record BeforeRound (c : Stored) (s : List ℕ) (rounds : ℕ) (b : Buffers) (f : List ℕ) (at k : ℕ) : Type 0 where
   pub within : k ≤ rounds
-  pub kept : Kept c b f at (8 * k)
+  pub bounded : Bounded c b f at (8 * k)
   pub answer : roundsFrom (jobOf c) rounds (rounds - k) (stateOf b k) f (drop at (bits s)) ≡ played (jobOf c) rounds s
 
 pub record BeforeDisk (c : Stored) (s : List ℕ) (rounds k : ℕ) (b : Buffers) (f : List ℕ) (at d : ℕ) : Type 0 where
   pub within : d ≤ c .disks
-  pub kept : Kept c b f at (8 * k + d)
+  pub bounded : Bounded c b f at (8 * k + d)
   pub answer : disksFrom (jobOf c) (afterRound (jobOf c) rounds (rounds - suc k) (b .next) (suc k)) (c .disks - d) (b .resident) f d (drop at (bits s))
       ≡ played (jobOf c) rounds s
 
 pub record AtReading (c : Stored) (s : List ℕ) (rounds : ℕ) (f : List ℕ) (at k : ℕ) (b : Buffers) : Type 0 where
   pub within : k ≤ rounds
-  pub kept : Kept c b f at (8 * k)
+  pub bounded : Bounded c b f at (8 * k)
   pub answer : roundsFrom (jobOf c) rounds (rounds - k) (afterReading (jobOf c) (b .resident) (b .next) k) f (drop at (bits s))
       ≡ played (jobOf c) rounds s
 
 -- more actions than there were
-kept-more : {c : Stored} {b : Buffers} {f : List ℕ} {at m : ℕ} (n : ℕ) → m ≤ n → Kept c b f at m → Kept c b f at n
-kept-more n h p = record {
+bounded-more : {c : Stored} {b : Buffers} {f : List ℕ} {at m : ℕ} (n : ℕ) → m ≤ n → Bounded c b f at m → Bounded c b f at n
+bounded-more n h p = record {
   holds = p .holds;
   near = omega arith;
   long = p .long;
@@ -87,9 +87,9 @@ few-more f d n p h e =
     rw (same, getD-set-same f d (getD f d 0 + 1) 0 p) (omega (arith, q)))
     (λ y. let q = h e in rw (getD-set-other f d e (getD f d 0 + 1) 0 (eqb-false e d y)) (omega (arith, q)))
 
-kept-fetch : {c : Stored} {b b′ : Buffers} {f : List ℕ} {at at′ d n m : ℕ} → Kept c b f at n → Holds (jobOf c) b′ (stateOf b′ 0)
-    → d < 8 → at′ ≤ at + 20 → m ≡ suc n → Kept c b′ (set f d (getD f d 0 + 1)) at′ m
-kept-fetch {f = f} {d = d} {n = n} p h l q e = record {
+bounded-fetch : {c : Stored} {b b′ : Buffers} {f : List ℕ} {at at′ d n m : ℕ} → Bounded c b f at n → Holds (jobOf c) b′ (stateOf b′ 0)
+    → d < 8 → at′ ≤ at + 20 → m ≡ suc n → Bounded c b′ (set f d (getD f d 0 + 1)) at′ m
+bounded-fetch {f = f} {d = d} {n = n} p h l q e = record {
   holds = h;
   near = (let r = p .near in omega (arith, r));
   long = length-set f d _ ∙ p .long;
@@ -133,7 +133,7 @@ module _ {c : Stored} (h : Fits c) {s : List ℕ} {rounds : ℕ} where
       let all : rounds - 0 ≡ rounds = omega arith in
       record {
         within = omega arith;
-        kept = record {
+        bounded = record {
           holds = holds-start (jobOf c) (let e = disks-are c h in let f = h .fewDisks in omega (arith, e, f));
           near = omega arith;
           long = refl;
@@ -150,14 +150,14 @@ module _ {c : Stored} (h : Fits c) {s : List ℕ} {rounds : ℕ} where
       let all : diskCount (jobOf c) ≡ c .disks - 0 = disks-are c h ∙ (let e : c .disks ≡ c .disks - 0 = omega arith in e) in
       record {
         within = omega arith;
-        kept = kept-more (8 * k + 0) (omega arith) (p .kept);
+        bounded = bounded-more (8 * k + 0) (omega arith) (p .bounded);
         answer = rw (← all) (rw left at (p .answer));
       }
 
   -- disk d acts
   module _ {k : ℕ} {b : Buffers} {f : List ℕ} {at d : ℕ} (p : BeforeDisk c s rounds k b f at d) (l : d < c .disks) where
     held : Holds (jobOf c) b (stateOf b 0)
-    held = p .kept .holds
+    held = p .bounded .holds
 
     fewDisks : diskCount (jobOf c) ≤ 8
     fewDisks = let e = disks-are c h in let n = h .fewDisks in omega (arith, e, n)
@@ -190,9 +190,10 @@ module _ {c : Stored} (h : Fits c) {s : List ℕ} {rounds : ℕ} where
         s at
         ∙ ap (actRead s at) (sym e)
 
-    legal : (a : Action) (rest : List ℕ) → actionReader (jobOf c) (b .resident) d (drop at (bits s)) ≡ got a rest
-        → Legal (jobOf c) (b .resident) d a × Room (jobOf c) (b .resident) d a
-    legal a rest e = action-legal (jobOf c) (b .resident) d (drop at (bits s)) a rest (drop-bits at (bits s) (bits-are s)) e
+    -- an action that was read is legal, and a fetch that discards nothing finds a slot empty
+    allowed : (a : Action) (rest : List ℕ) → actionReader (jobOf c) (b .resident) d (drop at (bits s)) ≡ got a rest
+        → ActionRead (jobOf c) (b .resident) d (drop at (bits s)) a rest
+    allowed a rest e = action-read (jobOf c) (b .resident) d (drop at (bits s)) a rest (drop-bits at (bits s) (bits-are s)) e
 
     -- what the rest gives after it
     goes : (a : Act) → a ≡ actionHere c s b at d
@@ -215,11 +216,11 @@ module _ {c : Stored} (h : Fits c) {s : List ℕ} {rounds : ℕ} where
     disk-idle e =
         rw (add-one d) (record {
           within = l;
-          kept = record {
+          bounded = record {
             holds = held;
-            near = (let q = p .kept .near in omega (arith, q));
-            long = p .kept .long;
-            few = λ e. (let q = p .kept .few e in omega (arith, q));
+            near = (let q = p .bounded .near in omega (arith, q));
+            long = p .bounded .long;
+            few = λ e. (let q = p .bounded .few e in omega (arith, q));
           };
           answer = goes Idle e;
         })
@@ -228,7 +229,7 @@ module _ {c : Stored} (h : Fits c) {s : List ℕ} {rounds : ℕ} where
     module _ {x : ℕ} (e : Fetch x ≡ actionHere c s b at d) where
       into : Block (jobOf c) (b .resident) d x false × (load (jobOf c) (b .resident) d < slotsOf (jobOf c) d)
       unfolding actRead Legal Room
-      into = legal (fetch x) (drop (at + 11) (bits s)) (reads (Fetch x) e)
+      into = let r = allowed (fetch x) (drop (at + 11) (bits s)) (reads (Fetch x) e) in (r .legal, r .room)
 
       pub fetch-fits : (x < 512) × (d < 8) × (getD (b .held) d 0 < 255)
       fetch-fits =
@@ -244,7 +245,7 @@ module _ {c : Stored} (h : Fits c) {s : List ℕ} {rounds : ℕ} where
           let after = holds-fetch (jobOf c) b (stateOf b 0) held fewBlocks fewDisks d here x (into .0) in
           rw (add-one d) (record {
             within = l;
-            kept = kept-fetch (p .kept) after small (omega arith) (omega arith);
+            bounded = bounded-fetch (p .bounded) after small (omega arith) (omega arith);
             answer = goes (Fetch x) e;
           })
 
@@ -252,7 +253,7 @@ module _ {c : Stored} (h : Fits c) {s : List ℕ} {rounds : ℕ} where
     module _ {x z : ℕ} (e : Replace x z ≡ actionHere c s b at d) where
       both : Block (jobOf c) (b .resident) d x false × Block (jobOf c) (b .resident) d z true
       unfolding actRead Legal Room
-      both = legal (replace x z) (drop (at + 20) (bits s)) (reads (Replace x z) e) .0
+      both = allowed (replace x z) (drop (at + 20) (bits s)) (reads (Replace x z) e) .legal
 
       pub replace-fits : (z < 512) × (x < 512) × (d < 8) × (1 ≤ getD (b .held) d 0)
       replace-fits =
@@ -267,7 +268,7 @@ module _ {c : Stored} (h : Fits c) {s : List ℕ} {rounds : ℕ} where
           let after = holds-replace (jobOf c) b (stateOf b 0) held fewBlocks fewDisks d here x z (both .0) (both .1) in
           rw (add-one d) (record {
             within = l;
-            kept = kept-fetch (p .kept) after small (omega arith) (omega arith);
+            bounded = bounded-fetch (p .bounded) after small (omega arith) (omega arith);
             answer = goes (Replace x z) e;
           })
 
@@ -281,7 +282,7 @@ module _ {c : Stored} (h : Fits c) {s : List ℕ} {rounds : ℕ} where
       let most = p .within in
       rw (add-one k) (record {
         within = q;
-        kept = kept-more (8 * suc k) (omega (arith, few, most)) (p .kept);
+        bounded = bounded-more (8 * suc k) (omega (arith, few, most)) (p .bounded);
         answer = rw none at (p .answer);
       })
 
@@ -296,14 +297,14 @@ module _ {c : Stored} (h : Fits c) {s : List ℕ} {rounds : ℕ} where
         let one = read-on (b .resident) refs (b .next) (omega (arith, n)) (rw (ref-at c h (b .next) l) m) in
         let same : b .next + consumed (b .resident) (drop (b .next) refs) ≡ b .next + 1 + consumed (b .resident) (drop (b .next + 1) refs) =
         rw (add-one (b .next)) (omega (arith, one)) in
-        let held = holds-consume (jobOf c) b (stateOf b 0) (p .kept .holds) in
+        let held = holds-consume (jobOf c) b (stateOf b 0) (p .bounded .holds) in
         record {
           within = p .within;
-          kept = record {
+          bounded = record {
             holds = holds-same (jobOf c) (consumeOne b) _ _ refl (sym (add-one (b .next))) held;
-            near = p .kept .near;
-            long = p .kept .long;
-            few = p .kept .few;
+            near = p .bounded .near;
+            long = p .bounded .long;
+            few = p .bounded .few;
           };
           answer = rw (← same) (p .answer);
         }
@@ -312,7 +313,7 @@ module _ {c : Stored} (h : Fits c) {s : List ℕ} {rounds : ℕ} where
     stops : consumed (b .resident) (drop (b .next) (jobOf c .refs)) ≡ 0 → BeforeRound c s rounds b f at k
     stops e =
         let same : b .next + consumed (b .resident) (drop (b .next) (jobOf c .refs)) ≡ b .next = omega (arith, e) in
-        record { within = p .within; kept = p .kept; answer = rw same at (p .answer) }
+        record { within = p .within; bounded = p .bounded; answer = rw same at (p .answer) }
 
     pub reading-missing : b .next < c .count → isResident (b .resident) (getD (c .refs) (b .next) 0) ≡ false → BeforeRound c s rounds b f at k
     reading-missing l m =

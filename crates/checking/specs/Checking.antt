@@ -1,9 +1,9 @@
 -- A sheet read and played action by action, as the code does it: what one action is, what the rest of a round and of a sheet gives, and what the
 -- check answers. Document 01, "Playing a round", and 9 to 16 of "Numbers of a refused call". Assumes nothing.
-use mathlib.Core.Bool.{Bool, cond, not, _&&_, _||_}
+use mathlib.Core.Bool.{Bool, cond, _&&_}
 use mathlib.Core.List.{List}
 use Prim.Native.Nat.{ℕ, zero, suc, _+_}
-use lib.Dec.{ltb, leb, eqb}
+use lib.Dec.{ltb, eqb}
 use lib.ListN.{getD, set, drop, replicate}
 use Rattle.bits.specs.Bits.{bits}
 use Rattle.bits.specs.Reading.{Answer, given, refused, Read, got, stop, isClosed}
@@ -13,44 +13,73 @@ use Rattle.bits.specs.declared.Field.the-variants.{Value, Ended}
 use Rattle.model.specs.Job.{Job, diskCount, refCount}
 use Rattle.model.specs.Playing.{Action, idle, fetch, replace, State, start, isResident, act, consumed}
 use Rattle.model.specs.Sheet.{actionReader}
-use Rattle.model.specs.Calls.{Counts}
+use Rattle.model.specs.Calls.{Counts, numberOf, countsGiven}
 use Rattle.checking.specs.declared.Act.{Act}
 use Rattle.checking.specs.declared.Act.the-variants.{Idle, Fetch, Replace, Refused}
+use Rattle.checking.specs.declared.Named.{Named}
+use Rattle.checking.specs.declared.Named.the-variants as named
+use Rattle.checking.specs.declared.Named.the-variants.{Elsewhere, Missing, Resident}
 use Rattle.checking.specs.declared.Checked.{Checked}
 
 -- "A pass by the check gives the sheet's rounds and fetches per disk." "A refused call returns its number with all counts 0."
 unfoldable pub checkedOf : Answer Counts → Checked
-checkedOf (given c) = record { number = 0; rounds = c .rounds; fetches = c .fetches }
-checkedOf (refused n) = record { number = n; rounds = 0; fetches = replicate 8 0 }
+checkedOf a = record { number = numberOf a; rounds = countsGiven a .rounds; fetches = countsGiven a .fetches }
 
--- A field that is due: "9. The sheet ends inside a field that is due."
-abbrev pub onField : Field → (ℕ → Act) → Act
-onField (Value v) f = f v
-onField Ended f = Refused 9
+-- A bit that is due leads to the first answer where it is 0, to the second where it is 1. "9. The sheet ends inside a field that is due."
+abbrev pub onBit : Field → Act → Act → Act
+onBit (Value bit) a b = cond (eqb bit 0) a b
+onBit Ended a b = Refused 9
 
--- Block x does not lie on disk d.
-abbrev pub notOn : ℕ → List ℕ → ℕ → ℕ → Bool
-notOn blocks disk d x = leb blocks x || not (eqb (getD disk x 0) d)
+-- Block x is one of disk d's.
+abbrev pub isOn : ℕ → List ℕ → ℕ → ℕ → Bool
+isOn blocks disk d x = ltb x blocks && eqb (getD disk x 0) d
 
--- Block z is in the buffer of disk d.
-abbrev pub heldOn : ℕ → List ℕ → List Bool → ℕ → ℕ → Bool
-heldOn blocks disk marks d z = ltb z blocks && eqb (getD disk z 0) d && isResident marks z
+-- The block that a field names, as disk d sees it.
+unfoldable pub namedOf : ℕ → List ℕ → List Bool → ℕ → Field → Named
+namedOf blocks disk marks d (Value x) = cond (isOn blocks disk d x) (cond (isResident marks x) (Resident x) (Missing x)) Elsewhere
+namedOf blocks disk marks d Ended = named.Ended
 
--- What follows the fetched block x, at the bit `at`: 13 where nothing is discarded though every slot of disk d is taken (`full`), 14 where the
--- discarded block is not in its buffer.
+-- The block that the nine bits after the bit `at` name, as disk d sees it.
+unfoldable pub namedAfter : List ℕ → ℕ → ℕ → List ℕ → List Bool → ℕ → Named
+unfolding fieldAt namedOf
+namedAfter s at blocks disk marks d = namedOf blocks disk marks d (fieldAt s (at + 1) 9)
+
+-- What the named block leads to where it is to be fetched: "11. A fetched block is B or more, or lies on another disk. 12. A fetched block is already
+-- in the buffer."
+abbrev pub fetchedBy : Named → (ℕ → Act) → Act
+fetchedBy named.Ended more = Refused 9
+fetchedBy Elsewhere more = Refused 11
+fetchedBy (Resident x) more = Refused 12
+fetchedBy (Missing x) more = more x
+
+-- What the named block leads to where it is to be discarded for x: "14. The discarded block is not in that disk's buffer."
+abbrev pub discardedBy : ℕ → Named → Act
+discardedBy x named.Ended = Refused 9
+discardedBy x Elsewhere = Refused 14
+discardedBy x (Missing z) = Refused 14
+discardedBy x (Resident z) = Replace x z
+
+-- What follows the fetched block x, at the bit `at`; `full` says that every slot of disk d is taken. "13. Nothing is discarded though every slot is
+-- taken."
 unfoldable pub discardAt : List ℕ → ℕ → ℕ → List ℕ → List Bool → ℕ → ℕ → Bool → Act
-unfolding fieldAt
+unfolding fieldAt namedAfter
 discardAt s at blocks disk marks d x full =
-    onField (fieldAt s at 1) λ bit. cond (eqb bit 0) (cond full (Refused 13) (Fetch x))
-    (onField (fieldAt s (at + 1) 9) λ z. cond (heldOn blocks disk marks d z) (Replace x z) (Refused 14))
+    onBit (fieldAt s at 1) (cond full (Refused 13) (Fetch x)) (discardedBy x (namedAfter s at blocks disk marks d))
 
--- The action of disk d at the bit `at`: 11 where the fetched block is not one of the disk's, 12 where it is already in the buffer.
+-- The action of disk d at the bit `at`.
 unfoldable pub actionAt : List ℕ → ℕ → ℕ → List ℕ → List Bool → ℕ → Bool → Act
-unfolding fieldAt discardAt
+unfolding fieldAt namedAfter discardAt
 actionAt s at blocks disk marks d full =
-    onField (fieldAt s at 1) λ bit. cond (eqb bit 0) Idle
-    (onField (fieldAt s (at + 1) 9) λ x. cond (notOn blocks disk d x) (Refused 11)
-    (cond (isResident marks x) (Refused 12) (discardAt s (at + 10) blocks disk marks d x full)))
+    onBit (fieldAt s at 1) Idle
+    (fetchedBy (namedAfter s at blocks disk marks d) λ x. discardAt s (at + 10) blocks disk marks d x full)
+
+-- An action that starts at the bit `at`, as a reader gives it: the action with the bits after it, or the number of its refusal.
+unfoldable pub actRead : List ℕ → ℕ → Act → Read Action
+unfolding bits
+actRead s at Idle = got idle (drop (at + 1) (bits s))
+actRead s at (Fetch x) = got (fetch x) (drop (at + 11) (bits s))
+actRead s at (Replace x z) = got (replace x z) (drop (at + 20) (bits s))
+actRead s at (Refused n) = stop n
 
 -- The fetches of each disk after one more action of disk d.
 unfoldable pub counted : List ℕ → ℕ → Action → List ℕ

@@ -10,13 +10,22 @@ ghost use Rattle.bits.specs.Reading.{refused};
 ghost use Rattle.job.specs.Meaning.{Fits, jobOf};
 ghost use Rattle.model.specs.Sheet.{scheduleRead};
 ghost use Rattle.model.specs.Calls.{passOf};
-ghost use Rattle.checking.specs.Checking.{checkedOf, discardAt, actionAt, endOf, played};
+ghost use Rattle.checking.specs.Checking.{checkedOf, namedAfter, discardAt, actionAt, endOf, played};
 
 // What the check gives: its number, 0 for a pass; the sheet's rounds, and its fetches on each disk. A refusal has all counts 0.
 pub struct Checked {
     pub number: usize,
     pub rounds: usize,
     pub fetches: [u16; 8],
+}
+
+// The block that a field of a sheet names, as one disk sees it: the sheet ends inside the field; B or more, or on another disk; one of the disk's,
+// outside its buffer or in it.
+enum Named {
+    Ended,
+    Elsewhere,
+    Missing(usize),
+    Resident(usize),
 }
 
 // One action of a sheet: nothing; a fetched block; a fetched block (first) in place of a discarded one; or the number of a refusal.
@@ -44,6 +53,30 @@ fn wide(x: u16) -> usize
     x as usize
 }
 
+// The block that the nine bits after the bit `at` name, as disk d sees it.
+fn block_after(
+    sheet: &[u8],
+    at: usize,
+    blocks: usize,
+    disk: &[u16; 512],
+    resident: &[bool; 512],
+    d: usize,
+) -> Named
+    requires { ⌜ (at < 2 ^ 31) × (blocks ≤ 512) ⌝ }
+    ensures { λ r. ⌜ r ≡ namedAfter (now (sheet .entry)) at blocks (now (disk .entry)) (now (resident .entry)) d ⌝ }
+{
+    let Field::Value(x) = bits::read::field(sheet, at + 1, 9) else {
+        return Named::Ended;
+    };
+    if x < blocks && wide(disk[x]) == d {
+        if resident[x] {
+            return Named::Resident(x);
+        }
+        return Named::Missing(x);
+    }
+    Named::Elsewhere
+}
+
 // What follows the fetched block x.
 fn discard(
     sheet: &[u8],
@@ -58,28 +91,20 @@ fn discard(
     requires { ⌜ (at < 2 ^ 31) × (blocks ≤ 512) ⌝ }
     ensures { λ r. ⌜ r ≡ discardAt (now (sheet .entry)) at blocks (now (disk .entry)) (now (resident .entry)) d x full ⌝ }
 {
-    let Field::Value(bit) = bits::read::field(sheet, at, 1) else {
+    let Field::Value(discards) = bits::read::field(sheet, at, 1) else {
         return Act::Refused(9);
     };
-    if bit == 0 {
+    if discards == 0 {
         if full {
             return Act::Refused(13);
         }
         return Act::Fetch(x);
     }
-    let Field::Value(z) = bits::read::field(sheet, at + 1, 9) else {
-        return Act::Refused(9);
-    };
-    if blocks <= z {
-        return Act::Refused(14);
-    }
-    if wide(disk[z]) != d {
-        return Act::Refused(14);
-    }
-    if resident[z] {
-        Act::Replace(x, z)
-    } else {
-        Act::Refused(14)
+    match block_after(sheet, at, blocks, disk, resident, d) {
+        Named::Ended => Act::Refused(9),
+        Named::Elsewhere => Act::Refused(14),
+        Named::Missing(_) => Act::Refused(14),
+        Named::Resident(z) => Act::Replace(x, z),
     }
 }
 
@@ -96,25 +121,18 @@ fn action(
     requires { ⌜ (at < 2 ^ 30) × (blocks ≤ 512) ⌝ }
     ensures { λ r. ⌜ r ≡ actionAt (now (sheet .entry)) at blocks (now (disk .entry)) (now (resident .entry)) d full ⌝ }
 {
-    let Field::Value(bit) = bits::read::field(sheet, at, 1) else {
+    let Field::Value(fetches) = bits::read::field(sheet, at, 1) else {
         return Act::Refused(9);
     };
-    if bit == 0 {
+    if fetches == 0 {
         return Act::Idle;
     }
-    let Field::Value(x) = bits::read::field(sheet, at + 1, 9) else {
-        return Act::Refused(9);
-    };
-    if blocks <= x {
-        return Act::Refused(11);
+    match block_after(sheet, at, blocks, disk, resident, d) {
+        Named::Ended => Act::Refused(9),
+        Named::Elsewhere => Act::Refused(11),
+        Named::Resident(_) => Act::Refused(12),
+        Named::Missing(x) => discard(sheet, at + 10, blocks, disk, resident, d, x, full),
     }
-    if wide(disk[x]) != d {
-        return Act::Refused(11);
-    }
-    if resident[x] {
-        return Act::Refused(12);
-    }
-    discard(sheet, at + 10, blocks, disk, resident, d, x, full)
 }
 
 // What follows the last round; `left` says that references are left.
@@ -167,7 +185,7 @@ fn play(job: Job, sheet: &[u8], rounds: usize) -> Checked
             d += 1;
         }
         k += 1;
-        'reading: while b.next < job.count {
+        while b.next < job.count {
             let next = b.next;
             if !b.resident[job.refs[next] as usize] {
                 continue 'rounds;

@@ -14,7 +14,7 @@ use Rattle.model.specs.Job.{Job, Sound, diskCount, refCount, slotsOf, refAt}
 use Rattle.model.specs.Playing.{State, load}
 use Rattle.model.specs.Rules.{distance, distanceNow, nearestMissing, minBlock, shortOf, short, someLater, unlessLater, sparing}
 use Rattle.model.specs.Rules.{intoEmpty, overMinBlock, minBlockSooner, waits, noneMissing}
-use Rattle.model.specs.Rules.{Choice as Chosen}
+use Rattle.model.specs.Rules.{Choice as RuleChoice}
 use Rattle.model.specs.Valid.{Block}
 use Rattle.model.proofs.Distances.{distance-before, distance-same, distance-one}
 use Rattle.model.proofs.Choosing.{NearestView, noneDue, nearest, nearest-view, LastView, empty, last, last-view, no-later, one-later}
@@ -237,12 +237,12 @@ module _ {j : Job} {s : State} {d : ℕ} {residents : List ℕ} {look : ℕ} {la
       short-full l f ∙ rw (le-ltb (distanceNow j s v) (distanceNow j s (refAt j look)) (omega (arith, n, e)))
 
   -- and the rule that is asked for.
-  ruled : (spares : Bool) (c : Chosen) → short j s d ≡ c → cond spares (unlessLater j s d c) c ≡ cond spares (sparing j s d) (short j s d)
+  ruled : (spares : Bool) (c : RuleChoice) → short j s d ≡ c → cond spares (unlessLater j s d c) c ≡ cond spares (sparing j s d) (short j s d)
   unfolding sparing
   ruled true c e = ap (unlessLater j s d) (sym e)
   ruled false c e = sym e
 
-  always : (spares : Bool) (c : Chosen) → short j s d ≡ c → unlessLater j s d c ≡ c → c ≡ cond spares (sparing j s d) (short j s d)
+  always : (spares : Bool) (c : RuleChoice) → short j s d ≡ c → unlessLater j s d c ≡ c → c ≡ cond spares (sparing j s d) (short j s d)
   always true c e k = sym k ∙ ruled true c e
   always false c e k = ruled false c e
 

@@ -22,36 +22,36 @@ use Rattle.choosing.specs.Moving.{Ahead, Forward, Moved, Advanced}
 -- one reference of the disk is passed
 module _ {j : Job} {resident : List Bool} {from d p : ℕ} {again follow later : List ℕ} (sound : Sound j) (tables : Forward j again follow)
     (pointer : Pointer j resident from d p later) (more : p < refCount j) where
-  next-is : getD follow p 0 ≡ chainFrom (j .disks) (j .refs) (suc p) d
-  next-is = tables .ofDisk p more ∙ ap (chainFrom (j .disks) (j .refs) (suc p)) (pointer .onDisk more)
+  next-is : getD follow p 0 ≡ chainFrom (j .blockDisks) (j .refs) (suc p) d
+  next-is = tables .ofDisk p more ∙ ap (chainFrom (j .blockDisks) (j .refs) (suc p)) (pointer .onDisk more)
 
   -- no missing block of the disk is referenced before its next reference
   next-least : isResident resident (refAt j p) ≡ true → (b : ℕ) → b < blockCount j → diskOf j b ≡ d → isResident resident b ≡ false
-      → chainFrom (j .disks) (j .refs) (suc p) d ≤ distance (j .refs) from b
+      → chainFrom (j .blockDisks) (j .refs) (suc p) d ≤ distance (j .refs) from b
   next-least here b k on out =
       let was = pointer .least b k on out in
-      let to = chain-to (j .disks) (j .refs) (suc p) d more in
-      by-test (leb (chainFrom (j .disks) (j .refs) (suc p) d) (distance (j .refs) from b))
+      let to = chain-to (j .blockDisks) (j .refs) (suc p) d more in
+      by-test (leb (chainFrom (j .blockDisks) (j .refs) (suc p) d) (distance (j .refs) from b))
       (λ y. leb-true _ _ y)
       (λ n. let less = leb-false _ _ n in
       let hit = distance-hit (j .refs) from b (omega (arith, less, to)) in
       by-test (eqb (distance (j .refs) from b) p)
       (λ y. let same = ap (refAt j) (eqb-true (distance (j .refs) from b) p y) in clash here (ap (isResident resident) (sym same ∙ hit) ∙ out))
       (λ m. let other = eqb-false (distance (j .refs) from b) p m in
-      absurd (chain-least (j .disks) (j .refs) (suc p) d (distance (j .refs) from b) more (omega (arith, was, other)) less (ap (diskOf j) hit ∙ on))))
+      absurd (chain-least (j .blockDisks) (j .refs) (suc p) d (distance (j .refs) from b) more (omega (arith, was, other)) less (ap (diskOf j) hit ∙ on))))
 
   pub pointer-on : isResident resident (refAt j p) ≡ true → refAt j p < length later
       → Pointer j resident from d (getD follow p 0) (set later (refAt j p) (getD again p 0))
   pointer-on here room =
       let from-p = pointer .onward in
-      let next = chain-from (j .disks) (j .refs) (suc p) d in
+      let next = chain-from (j .blockDisks) (j .refs) (suc p) d in
       rw next-is record {
         onward = omega (arith, next, from-p);
-        within = chain-to (j .disks) (j .refs) (suc p) d more;
-        onDisk = chain-hit (j .disks) (j .refs) (suc p) d;
+        within = chain-to (j .blockDisks) (j .refs) (suc p) d more;
+        onDisk = chain-hit (j .blockDisks) (j .refs) (suc p) d;
         least = next-least here;
         laters = λ b k on.
-            chain-pass (j .disks) (j .refs) later p (getD again p 0) d b more room (tables .ofBlock p more) on (pointer .laters b k on);
+            chain-pass (j .blockDisks) (j .refs) later p (getD again p 0) d b more room (tables .ofBlock p more) on (pointer .laters b k on);
       }
 
   pub others-on : (b : ℕ) → (b < blockCount j → diskOf j b ≢ d) → getD (set later (refAt j p) (getD again p 0)) b 0 ≡ getD later b 0
@@ -101,20 +101,20 @@ follows-ahead disks refs table room i l =
 
 -- the disks of a job's references, where a longer list has the disks of its blocks
 refDisks-same : (j : Job) (disks : List ℕ) → ((i : ℕ) → i < refCount j → getD disks (refAt j i) 0 ≡ diskOf j (refAt j i))
-    → refDisks disks (j .refs) ≡ refDisks (j .disks) (j .refs)
+    → refDisks disks (j .refs) ≡ refDisks (j .blockDisks) (j .refs)
 refDisks-same j disks same =
     let l = refDisks-length disks (j .refs) in
-    let r = refDisks-length (j .disks) (j .refs) in
-    ext-getD 0 (refDisks disks (j .refs)) (refDisks (j .disks) (j .refs)) (l ∙ sym r) λ i p.
+    let r = refDisks-length (j .blockDisks) (j .refs) in
+    ext-getD 0 (refDisks disks (j .refs)) (refDisks (j .blockDisks) (j .refs)) (l ∙ sym r) λ i p.
     let small : i < refCount j = omega (arith, l) in
-    refDisks-at disks (j .refs) i small ∙ same i small ∙ sym (refDisks-at (j .disks) (j .refs) i small)
+    refDisks-at disks (j .refs) i small ∙ same i small ∙ sym (refDisks-at (j .blockDisks) (j .refs) i small)
 
 pub forward-made : (j : Job) (disks table tables : List ℕ) → ((i : ℕ) → i < refCount j → getD disks (refAt j i) 0 ≡ diskOf j (refAt j i))
     → refCount j ≤ length table → refCount j ≤ length tables
     → Forward j (agains (j .refs) table) (agains (refDisks disks (j .refs)) tables)
 forward-made j disks table tables same l r = record {
   ofBlock = λ i p. agains-at (j .refs) table i p (omega arith);
-  ofDisk = λ i p. rw (refDisks-same j disks same) (chain-next (j .disks) (j .refs) tables i p (omega arith));
+  ofDisk = λ i p. rw (refDisks-same j disks same) (chain-next (j .blockDisks) (j .refs) tables i p (omega arith));
 }
 
 -- what `advance` and `lead` do together

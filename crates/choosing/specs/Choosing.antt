@@ -6,7 +6,7 @@ use Prim.Native.Nat.{ℕ, zero, suc, _+_, _-_, _*_}
 use lib.Dec.{ltb, leb}
 use lib.ListN.{length, getD}
 use Rattle.model.specs.Rules.{intoEmpty, overMinBlock, minBlockSooner, waits, noneMissing}
-use Rattle.model.specs.Rules.{Choice as Chosen}
+use Rattle.model.specs.Rules.{Choice as RuleChoice}
 use Rattle.choosing.specs.declared.Choice.{Choice}
 use Rattle.choosing.specs.declared.Choice.the-variants.{IntoEmpty, OverMinBlock, MinBlockSooner, Waits, NoneMissing}
 
@@ -41,7 +41,7 @@ chooseFrom refs look residents base count slots next later sparing =
     (chooseFull residents next later sparing look (getD refs look 0) base count (lastPlace residents next base (count - 1))))
 
 -- Which of the model's choices it is.
-abbrev pub meaning : List ℕ → Choice → Chosen
+abbrev pub meaning : List ℕ → Choice → RuleChoice
 meaning residents (IntoEmpty u) = intoEmpty u
 meaning residents (OverMinBlock u place) = overMinBlock u (getD residents place 0)
 meaning residents MinBlockSooner = minBlockSooner

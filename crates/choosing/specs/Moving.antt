@@ -17,7 +17,7 @@ Ahead n table = (i : ℕ) → i < n → (i < getD table i 0) × (getD table i 0 
 -- The tables of a job's references: for each the next one of its block, and the next one of its disk.
 pub record Forward (j : Job) (again follow : List ℕ) : Type 0 where
   pub ofBlock : (i : ℕ) → i < refCount j → getD again i 0 ≡ distance (j .refs) (suc i) (refAt j i)
-  pub ofDisk : (i : ℕ) → i < refCount j → getD follow i 0 ≡ chainFrom (j .disks) (j .refs) (suc i) (diskOf j (refAt j i))
+  pub ofDisk : (i : ℕ) → i < refCount j → getD follow i 0 ≡ chainFrom (j .blockDisks) (j .refs) (suc i) (diskOf j (refAt j i))
 
 -- A pointer moves from `look` to p, and the distances from it are then `after`: in any job with these references and tables, a pointer that was
 -- right for a disk is right for it there, and the entries of all blocks but the disk's are as they were.

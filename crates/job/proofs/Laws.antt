@@ -5,8 +5,8 @@ use Prim.Native.Nat.{ℕ, _+_, _-_, _≤_, _<_}
 use native.Mathlib.Omega.{arith}
 use lib.Dec.{ltb}
 use borrow.Author.Tests.{ltb-true, ltb-false}
-use Rattle.bits.proofs.Logic.{by-test}
-use lib.ListN.{length, take, getD, replicate, length-append, length-replicate, length-take, getD-replicate, List·getD-append, List·getD-eq-default}
+use Rattle.bits.proofs.Logic.{by-test, getD-same}
+use lib.ListN.{length, take, getD, replicate, length-append, length-replicate, length-take, List·getD-append}
 use lib.Seq.{take-append-seam, getD-append-add, getD-take}
 use Rattle.model.specs.Job.{Job, Sound, diskCount, blockCount, refCount, slotsOf, diskOf, refAt}
 use Rattle.job.specs.Meaning.{jobOf, padTo, stored, Fits}
@@ -34,22 +34,19 @@ padTo-below n k l h b pos =
     (rw (getD-append-add l (replicate (n - length l) 0) (b - length l) 0) (zeros (n - length l) (b - length l))))
   where
     zeros : (m i : ℕ) → getD (replicate m 0) i 0 < k
-    zeros m i =
-        by-test (ltb i m)
-        (λ e. rw (getD-replicate {A = ℕ} m i 0 0 (ltb-true i m e)) pos)
-        (λ e. rw (List·getD-eq-default {A = ℕ} (replicate m 0) 0 {n = i} (let q = ltb-false i m e in let r = length-replicate {A = ℕ} m 0 in omega (arith, q, r))) pos)
+    zeros m i = rw (getD-same {A = ℕ} m i 0) pos
 
 pub jobOf-stored : (j : Job) → jobOf (stored j) ≡ j
 unfolding jobOf stored
-jobOf-stored j = λ i. record { slots = take-padTo 8 (j .slots) i; disks = take-padTo 512 (j .disks) i; refs = take-padTo 2048 (j .refs) i }
+jobOf-stored j = λ i. record { slots = take-padTo 8 (j .slots) i; blockDisks = take-padTo 512 (j .blockDisks) i; refs = take-padTo 2048 (j .refs) i }
 
 pub stored-fits : (j : Job) → Sound j → Fits (stored j)
 unfolding stored
 stored-fits j h = record {
   longSlots = length-padTo 8 (j .slots) (h .fewDisks);
-  longDisk = length-padTo 512 (j .disks) (h .fewBlocks);
+  longDisk = length-padTo 512 (j .blockDisks) (h .fewBlocks);
   longRefs = length-padTo 2048 (j .refs) (h .fewRefs);
-  smallDisk = λ b. padTo-below 512 8 (j .disks) (λ i l. (let a = h .onDisks i l in let e = h .fewDisks in omega (arith, a, e))) b (omega arith);
+  smallDisk = λ b. padTo-below 512 8 (j .blockDisks) (λ i l. (let a = h .onDisks i l in let e = h .fewDisks in omega (arith, a, e))) b (omega arith);
   fewDisks = h .fewDisks;
   fewBlocks = h .fewBlocks;
   fewRefs = h .fewRefs;

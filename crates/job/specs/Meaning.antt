@@ -8,7 +8,7 @@ use Rattle.job.specs.declared.Job.{Job as Stored}
 
 -- the job that the counts and arrays say
 unfoldable pub jobOf : Stored → Job
-jobOf c = record { slots = take (c .disks) (c .slots); disks = take (c .blocks) (c .disk); refs = take (c .count) (c .refs) }
+jobOf c = record { slots = take (c .disks) (c .slots); blockDisks = take (c .blocks) (c .disk); refs = take (c .count) (c .refs) }
 
 -- a list followed by zeros, n entries in all
 unfoldable pub padTo : ℕ → List ℕ → List ℕ
@@ -21,7 +21,7 @@ stored j = record {
   disks = diskCount j;
   slots = padTo 8 (j .slots);
   blocks = blockCount j;
-  disk = padTo 512 (j .disks);
+  disk = padTo 512 (j .blockDisks);
   count = refCount j;
   refs = padTo 2048 (j .refs);
 }

@@ -7,10 +7,10 @@ use mathlib.Core.List.{List, [], _∷_}
 use Prim.Native.Nat.{ℕ, zero, suc, _+_, _≤_, _<_}
 use native.Mathlib.Omega.{arith}
 use lib.Dec.{eqb, ltb}
-use lib.ListN.{length, getD, set, take, length-set, length-replicate, getD-replicate, List·getD-eq-default}
+use lib.ListN.{length, getD, set, take, length-set, length-replicate, List·getD-eq-default}
 use lib.Seq.{getD-set-same, getD-set-other}
 use borrow.Author.Tests.{eq-eqb, eqb-true, eqb-false, ltb-true, ltb-false}
-use Rattle.bits.proofs.Logic.{by-test, clash, and-false-left, and-false-right}
+use Rattle.bits.proofs.Logic.{by-test, clash, and-false-left, and-false-right, getD-same}
 use Rattle.model.specs.Job.{Job, diskCount, blockCount, slotsOf, diskOf}
 use Rattle.model.specs.Playing.{Action, idle, fetch, replace, Schedule, State, start, noneResident, isResident, load, act, actAll, playRound, play, fetched, discarded, total}
 use Rattle.model.specs.Valid.{Legal, LegalAll, ValidFrom}
@@ -128,10 +128,7 @@ load-own j marks long d (replace x z) h =
 -- empty buffers hold nothing
 pub none-resident : (b : ℕ) → isResident noneResident b ≡ false
 unfolding noneResident
-none-resident b =
-    by-test (ltb b 512)
-    (λ e. getD-replicate 512 b false false (ltb-true b 512 e))
-    (λ e. List·getD-eq-default noneResident false {n = b} (let l = length-replicate 512 false in let p = ltb-false b 512 e in omega (arith, l, p)))
+none-resident b = getD-same 512 b false
 
 pub load-none : (j : Job) (d : ℕ) → load j noneResident d ≡ 0
 unfolding load

@@ -1,13 +1,16 @@
 -- The theorems about schedules, carried to the bytes of tickets and sheets. Assumes nothing.
 use mathlib.Core.Path.{_≡_, refl, sym, ap, _∙_, subst}
 use mathlib.Core.Logic.{_↔_}
+use mathlib.Core.Bool.{Bool, true, false, cond}
 use mathlib.Core.List.{List, [], _∷_, _++_, map, append-assoc}
+use mathlib.Core.Option.{some}
 use Prim.Native.Nat.{ℕ, zero, suc, _+_, _≤_, _<_}
 use native.Mathlib.Omega.{arith}
-use lib.Dec.{eqb, ltb, lit<}
-use lib.ListN.{length, getD, take, List·getD-eq-default, length-map}
+use lib.Dec.{ltb, lit<}
+use lib.ListN.{length, getD, take, drop, List·getD-eq-default, length-map}
+use lib.Seq.{take-append-seam}
 use borrow.Author.Tests.{eqb-true, eq-eqb, ltb-true, ltb-false}
-use Rattle.bits.specs.Bits.{digits}
+use Rattle.bits.specs.Bits.{digits, over}
 use Rattle.bits.specs.Reading.{Answer, given, refused}
 use Rattle.bits.proofs.Logic.{by-test, Each}
 use Rattle.bits.proofs.Bits.{Bits, bits-pack, digits-are}
@@ -19,7 +22,7 @@ use Rattle.model.specs.Rules.{action, Rule, short, sparing}
 use Rattle.model.specs.Plans.{each, choices, planFrom, planOf, scheduleOf}
 use Rattle.model.specs.Sheet.{actionBits, roundBits, roundsBits, sheetBits, sheetOf}
 use Rattle.model.specs.Valid.{ValidFrom, ValidSheet}
-use Rattle.model.specs.Calls.{Counts, countsOf, fetchesOn, shortCounts, sparingCounts, Mark, isShort, isSparing, Planned, markOf, chosen, handed, handedCounts, plannedOf, withRooms, plannedFor, planning, passOf, checkFor, checking}
+use Rattle.model.specs.Calls.{Counts, countsOf, fetchesOn, shortCounts, sparingCounts, Mark, isShort, isSparing, Planned, markFor, chosen, handed, handedCounts, plannedOf, withRooms, plannedFor, planAnswer, returned, partAfter, passOf, checkFor, checkAnswer}
 use Rattle.model.proofs.Choosing.{Lawful, short-lawful, sparing-lawful}
 use Rattle.model.proofs.Rounds.{ready-start, ready-after}
 use Rattle.model.specs.Valid.{Ready}
@@ -36,14 +39,14 @@ use Rattle.model.proofs.Longest.{passed-length}
 one-job : (t : List ℕ) {i j : Job} → ticketOf t ≡ given i → ticketOf t ≡ given j → i ≡ j
 one-job t p q = cc
 
-pub passes-valid : (t s : List ℕ) (c : Counts) → checking t s ≡ given c
+pub passes-valid : (t s : List ℕ) (c : Counts) → checkAnswer t s ≡ given c
     → (j : Job) × (schedule : Schedule) × (ticketOf t ≡ given j) × ValidSheet j s schedule × (countsOf schedule ≡ c)
 passes-valid t s c e =
     let p = passed t s c e in
     (p .job, p .schedule, p .ticket, read-valid (p .job) (p .sound) s (p .schedule) (p .read), p .counts)
 
-pub valid-passes : (t s : List ℕ) (j : Job) (schedule : Schedule) → ticketOf t ≡ given j → ValidSheet j s schedule → checking t s ≡ given (countsOf schedule)
-unfolding checking checkFor passOf
+pub valid-passes : (t s : List ℕ) (j : Job) (schedule : Schedule) → ticketOf t ≡ given j → ValidSheet j s schedule → checkAnswer t s ≡ given (countsOf schedule)
+unfolding checkAnswer checkFor passOf
 valid-passes t s j schedule e v = ap (checkFor s) e ∙ ap passOf (valid-read j (ticket-sound t j e) s schedule v)
 
 -- the eight counts
@@ -116,7 +119,7 @@ module _ (j : Job) (sound : Sound j) (schedule : Schedule) (v : ValidFrom j (sta
         (λ e. let z = fetches-beyond (scheduleOf sparing j) d (ltb-false d 8 e) in omega (arith, z)),
   )
 
-pub unbeaten : (t s : List ℕ) (j : Job) (c : Counts) → ticketOf t ≡ given j → checking t s ≡ given c
+pub unbeaten : (t s : List ℕ) (j : Job) (c : Counts) → ticketOf t ≡ given j → checkAnswer t s ≡ given c
     → (shortCounts j .rounds ≤ c .rounds) × ((d : ℕ) → fetchesOn (sparingCounts j) d ≤ fetchesOn c d)
 unbeaten t s j c e pass =
     let v = passes-valid t s c pass in
@@ -171,7 +174,7 @@ module _ (rule : Rule) (lawful : Lawful rule) (t : List ℕ) (j : Job) (e : tick
   pub schedule-most : rounds (scheduleOf rule j) ≤ 2048
   schedule-most = let f = schedule-few in let n = sound .fewRefs in omega (arith, f, n)
 
-  pub schedule-passes : checking t (sheetOf (scheduleOf rule j)) ≡ given (countsOf (scheduleOf rule j))
+  pub schedule-passes : checkAnswer t (sheetOf (scheduleOf rule j)) ≡ given (countsOf (scheduleOf rule j))
   unfolding rounds
   schedule-passes = valid-passes t (sheetOf (scheduleOf rule j)) j (scheduleOf rule j) e (valid-sheet j (scheduleOf rule j) schedule-most schedule-valid)
 
@@ -213,8 +216,8 @@ schedule-consumes rule lawful t j e =
 -- The sheet that planning hands back.
 
 -- what a planning call that is not refused gives
-pub planned : (t : List ℕ) (a b : ℕ) (p : Planned) → planning t a b ≡ given p → (j : Job) × (ticketOf t ≡ given j) × (plannedOf (scheduleOf short j) (scheduleOf sparing j) ≡ p)
-unfolding planning plannedFor withRooms
+pub planned : (t : List ℕ) (a b : ℕ) (p : Planned) → planAnswer t a b ≡ given p → (j : Job) × (ticketOf t ≡ given j) × (plannedOf (scheduleOf short j) (scheduleOf sparing j) ≡ p)
+unfolding planAnswer plannedFor withRooms
 planned t a b p e = go (ticketOf t) refl e
   where
     fits : (q : Planned) → withRooms a b q ≡ given p → q ≡ p
@@ -231,54 +234,78 @@ planned t a b p e = go (ticketOf t) refl e
     go (refused n) q h = refused-given h
 
 -- the mark is sparing exactly when both take equally many rounds
-mark-sparing : (a b : Schedule) → (markOf a b ≡ isSparing) ↔ (rounds a ≡ rounds b)
-unfolding markOf
-mark-sparing a b = (
-  λ e. by-test (eqb (rounds a) (rounds b)) (λ y. eqb-true _ _ y) (λ n. absurd (short-sparing (rw n at e))),
-  λ e. rw (eq-eqb (rounds a) (rounds b) e),
-)
-  where
-    short-sparing : isShort ≡ isSparing → ⊥
-    short-sparing e = let z : _≡_ {A = ℕ} 0 1 = cc in omega arith
+marked-sparing : (t : Bool) → cond t isSparing isShort ≡ isSparing → t ≡ true
+marked-sparing true e = refl
+marked-sparing false e = let z : _≡_ {A = ℕ} 0 1 = cc in absurd (omega arith)
+
+mark-sparing : (a b : ℕ) → (markFor a b ≡ isSparing) ↔ (a ≡ b)
+unfolding markFor
+mark-sparing a b = (λ e. eqb-true a b (marked-sparing _ e), λ e. ap (λ (t : Bool). cond t isSparing isShort) (eq-eqb a b e))
 
 -- what is said of the sheet handed back
 abbrev HandedBack : List ℕ → Planned → Type 0
 HandedBack t p =
     ((p .mark ≡ isSparing) ↔ (p .short .rounds ≡ p .sparing .rounds))
-    × (length (handed p) ≡ p .part)
-    × (checking t (handed p) ≡ given (handedCounts p))
-    × ((s : List ℕ) (c : Counts) → checking t s ≡ given c → handedCounts p .rounds ≤ c .rounds)
+    × (length (handed p) ≡ p .partLength)
+    × (checkAnswer t (handed p) ≡ given (handedCounts p))
+    × ((s : List ℕ) (c : Counts) → checkAnswer t s ≡ given c → (handedCounts p .rounds ≤ c .rounds) × ((d : ℕ) → fetchesOn (p .sparing) d ≤ fetchesOn c d))
 
 -- either plan's sheet, where the mark says that it is as short as the short plan's
-handed-of : (t : List ℕ) (j : Job) → ticketOf t ≡ given j → (m : Mark) → markOf (scheduleOf short j) (scheduleOf sparing j) ≡ m
-    → (checking t (chosen m (sheetOf (scheduleOf short j)) (sheetOf (scheduleOf sparing j))) ≡ given (chosen m (shortCounts j) (sparingCounts j)))
-    × ((s : List ℕ) (c : Counts) → checking t s ≡ given c → chosen m (shortCounts j) (sparingCounts j) .rounds ≤ c .rounds)
+handed-of : (t : List ℕ) (j : Job) → ticketOf t ≡ given j → (m : Mark) → markFor (rounds (scheduleOf short j)) (rounds (scheduleOf sparing j)) ≡ m
+    → (checkAnswer t (chosen m (sheetOf (scheduleOf short j)) (sheetOf (scheduleOf sparing j))) ≡ given (chosen m (shortCounts j) (sparingCounts j)))
+    × ((s : List ℕ) (c : Counts) → checkAnswer t s ≡ given c → chosen m (shortCounts j) (sparingCounts j) .rounds ≤ c .rounds)
 unfolding shortCounts sparingCounts
 handed-of t j e isShort q = (schedule-passes short short-lawful t j e, λ s c h. unbeaten t s j c e h .0)
 handed-of t j e isSparing q = (
   schedule-passes sparing sparing-lawful t j e,
-  λ s c h. (let k = unbeaten t s j c e h .0 in let same = mark-sparing (scheduleOf short j) (scheduleOf sparing j) .0 q in omega (arith, k, same)),
+  λ s c h. (let k = unbeaten t s j c e h .0 in let same = mark-sparing (rounds (scheduleOf short j)) (rounds (scheduleOf sparing j)) .0 q in omega (arith, k, same)),
 )
 
 part-of : (a b : Schedule) (m : Mark) → length (chosen m (sheetOf a) (sheetOf b)) ≡ chosen m (length (sheetOf a)) (length (sheetOf b))
 part-of a b isShort = refl
 part-of a b isSparing = refl
 
-pub handed-back : (t : List ℕ) (a b : ℕ) (p : Planned) → planning t a b ≡ given p → HandedBack t p
+pub handed-back : (t : List ℕ) (a b : ℕ) (p : Planned) → planAnswer t a b ≡ given p → HandedBack t p
 unfolding plannedOf countsOf shortCounts sparingCounts
 handed-back t a b p e =
     let w = planned t a b p e in
     let j = w .0 in
-    let h = handed-of t j (w .1) (markOf (scheduleOf short j) (scheduleOf sparing j)) refl in
+    let h = handed-of t j (w .1) (markFor (rounds (scheduleOf short j)) (rounds (scheduleOf sparing j))) refl in
     subst (HandedBack t) (w .2) (
-      mark-sparing (scheduleOf short j) (scheduleOf sparing j),
-      part-of (scheduleOf short j) (scheduleOf sparing j) (markOf (scheduleOf short j) (scheduleOf sparing j)),
+      mark-sparing (rounds (scheduleOf short j)) (rounds (scheduleOf sparing j)),
+      part-of (scheduleOf short j) (scheduleOf sparing j) (markFor (rounds (scheduleOf short j)) (rounds (scheduleOf sparing j))),
       h .0,
-      h .1,
+      λ s c pass. (h .1 s c pass, unbeaten t s j c (w .1) pass .1),
     )
 
+-- the part of the two buffers is the sheet that is handed back
+
+take-over : (s lent : List ℕ) → take (length s) (over s lent) ≡ s
+unfolding over
+take-over s lent = take-append-seam s (drop (length s) lent)
+
+part-chosen : (m : Mark) (a b x y : List ℕ) → take (length (chosen m a b)) (chosen m (over a x) (over b y)) ≡ chosen m a b
+part-chosen isShort a b x y = take-over a x
+part-chosen isSparing a b x y = take-over b y
+
+pub plan-given : (t : List ℕ) (a b : ℕ) (p : Planned) → planAnswer t a b ≡ given p
+    → (let r = returned (given p) in (r .number ≡ 0) × (r .mark ≡ some (p .mark)) × (r .partLength ≡ length (handed p)) × (r .short ≡ p .short) × (r .sparing ≡ p .sparing))
+unfolding returned
+plan-given t a b p e = (refl, refl, sym (handed-back t a b p e .1), refl, refl)
+
+pub part-handed : (t short′ sparing′ : List ℕ) (p : Planned) → planAnswer t (length short′) (length sparing′) ≡ given p → partAfter (given p) short′ sparing′ ≡ handed p
+unfolding partAfter plannedOf countsOf
+part-handed t short′ sparing′ p e =
+    let w = planned t (length short′) (length sparing′) p e in
+    let j = w .0 in
+    let a = scheduleOf short j in
+    let b = scheduleOf sparing j in
+    let m = markFor (rounds a) (rounds b) in
+    subst (λ (x : Planned). partAfter (given x) short′ sparing′ ≡ handed x) (w .2)
+    (ap (λ (n : ℕ). take n (chosen m (over (sheetOf a) short′) (over (sheetOf b) sparing′))) (sym (part-of a b m)) ∙ part-chosen m (sheetOf a) (sheetOf b) short′ sparing′)
+
 -- its numbers are the plans' own
-pub planned-counts : (t : List ℕ) (j : Job) (a b : ℕ) (p : Planned) → ticketOf t ≡ given j → planning t a b ≡ given p
+pub planned-counts : (t : List ℕ) (j : Job) (a b : ℕ) (p : Planned) → ticketOf t ≡ given j → planAnswer t a b ≡ given p
     → (p .short ≡ shortCounts j) × (p .sparing ≡ sparingCounts j) × (p .shortSheet ≡ sheetOf (scheduleOf short j)) × (p .sparingSheet ≡ sheetOf (scheduleOf sparing j))
 unfolding plannedOf shortCounts sparingCounts
 planned-counts t j a b p q e =
@@ -300,6 +327,6 @@ pub rounds-few : (rule : Rule) → Lawful rule → (t : List ℕ) (j : Job) → 
 rounds-few rule lawful t j e =
     (schedule-consumes rule lawful t j e, schedule-few rule lawful t j e, schedule-most rule lawful t j e, schedule-fits rule lawful t j e)
 
-pub passes-exactly : (t s : List ℕ) (c : Counts) → (checking t s ≡ given c)
+pub passes-exactly : (t s : List ℕ) (c : Counts) → (checkAnswer t s ≡ given c)
     ↔ ((j : Job) × (schedule : Schedule) × (ticketOf t ≡ given j) × ValidSheet j s schedule × (countsOf schedule ≡ c))
 passes-exactly t s c = (passes-valid t s c, λ w. valid-passes t s (w .0) (w .1) (w .2) (w .3) ∙ ap given (w .4))

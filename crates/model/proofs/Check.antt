@@ -7,17 +7,16 @@ use Rattle.bits.specs.Reading.{Answer, given, refused}
 use Rattle.bits.proofs.Bits.{bits-are}
 use Rattle.bits.proofs.Reading.{readAll-given, refused-given}
 use Rattle.model.specs.Job.{Sound, Job}
-use Rattle.model.specs.Ticket.{ticketReader, ticketOf}
+use Rattle.model.specs.Ticket.{ticketOf}
 use Rattle.model.specs.Playing.{Schedule, start}
 use Rattle.model.specs.Sheet.{sheetReader, scheduleRead}
-use Rattle.model.specs.Calls.{Counts, countsOf, passOf, checkFor, checking}
-use Rattle.model.proofs.Ticket.{reader-sound}
+use Rattle.model.specs.Calls.{Counts, countsOf, passOf, checkFor, checkAnswer}
+use Rattle.model.proofs.Ticket.{accepted-valid}
 use Rattle.model.proofs.Sheets.{SheetRead, sheet-read}
 
 -- an accepted ticket's job is sound
 pub ticket-sound : (t : List ℕ) (j : Job) → ticketOf t ≡ given j → Sound j
-unfolding ticketOf
-ticket-sound t j e = readAll-given ticketReader t e λ rest r. reader-sound (bits t) j rest r .0
+ticket-sound t j e = accepted-valid t j e .sound
 
 pub schedule-read : (j : Job) (s : List ℕ) (schedule : Schedule) → scheduleRead j s ≡ given schedule → SheetRead j (start j) (bits s) schedule
 unfolding scheduleRead
@@ -31,8 +30,8 @@ pub record Passed (t s : List ℕ) (c : Counts) : Type 0 where
   pub read : SheetRead job (start job) (bits s) schedule
   pub counts : countsOf schedule ≡ c
 
-pub passed : (t s : List ℕ) (c : Counts) → checking t s ≡ given c → Passed t s c
-unfolding checking checkFor passOf
+pub passed : (t s : List ℕ) (c : Counts) → checkAnswer t s ≡ given c → Passed t s c
+unfolding checkAnswer checkFor passOf
 passed t s c e = go (ticketOf t) refl e
   where
     pass : (j : Job) → ticketOf t ≡ given j → (a : Answer Schedule) → scheduleRead j s ≡ a → passOf a ≡ given c → Passed t s c

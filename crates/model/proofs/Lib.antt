@@ -1,4 +1,4 @@
-pub mod Cases
+pub mod Answers
 pub mod Ticket
 pub mod Counting
 pub mod Playing
@@ -6,6 +6,7 @@ pub mod Buffers
 pub mod Sheets
 pub mod Check
 pub mod Numbers
+mod Refusals
 pub mod Longest
 pub mod Distances
 pub mod Choosing

@@ -4,29 +4,33 @@ use mathlib.Core.List.{List, [], _∷_, _++_}
 use Prim.Native.Nat.{ℕ, zero, suc, _+_, _*_, _≤_}
 use native.Mathlib.Nat.{add-comm, zero-mul, suc-mul}
 use native.Mathlib.Omega.{arith}
-use lib.ListN.{length, replicate, length-append}
-use Rattle.bits.specs.Bits.{digits, bits, bytesFor, pack}
+use lib.ListN.{length, replicate, length-append, length-replicate}
+use Rattle.bits.specs.Bits.{digits, bytesFor, pack}
 use Rattle.bits.specs.Reading.{given, bind, _>>=_, _>>_, give, field, refuseIf, many, isClosed, closing, answer, readAll}
 use Rattle.bits.proofs.Logic.{Each}
 use Rattle.bits.proofs.Bits.{length-digits, length-bits, length-pack}
-use Rattle.bits.proofs.Reading.{readAll-given}
 use Rattle.model.specs.Job.{Job, diskCount}
-use Rattle.model.specs.Ticket.{slotsField, diskField, refField, ticketReader, ticketOf}
+use Rattle.model.specs.Ticket.{ticketBits, slotsField, diskField, refField, ticketReader, ticketOf}
 use Rattle.model.specs.Playing.{Action, idle, fetch, replace, Schedule, State, start}
 use Rattle.model.specs.Sheet.{actionBits, roundBits, roundsBits, sheetBits, sheetOf}
-use Rattle.model.specs.Calls.{Counts, checking}
-use Rattle.model.proofs.Ticket.{reader-sound}
+use Rattle.model.specs.Calls.{Counts, checkAnswer}
+use Rattle.model.proofs.Ticket.{accepted-valid, length-ticket}
 use Rattle.model.proofs.Sheets.{Allowed}
 use Rattle.model.proofs.Check.{passed}
 
 -- every accepted ticket is that short
 pub ticket-length : (t : List ℕ) (j : Job) → ticketOf t ≡ given j → length t ≤ 2507
-unfolding ticketOf
 ticket-length t j e =
-    readAll-given ticketReader t e λ rest r.
-    let s = reader-sound (bits t) j rest r in
+    let v = accepted-valid t j e in
     let l = length-bits t in
-    omega (arith, s, l)
+    let w = ap length (v .written) ∙ length-append (ticketBits j) (replicate (v .closingBits) 0) in
+    let b = length-ticket j in
+    let z = length-replicate {A = ℕ} (v .closingBits) 0 in
+    let few = v .fewClosing in
+    let d = v .sound .fewDisks in
+    let k = v .sound .fewBlocks in
+    let n = v .sound .fewRefs in
+    omega (arith, l, w, b, z, few, d, k, n)
 
 -- eight disks with a slot each, 512 blocks on disk 0, and 2,048 references to block 0
 unfoldable pub longTicket : List ℕ
@@ -34,9 +38,9 @@ unfolding pack digits
 longTicket = pack (digits 4 8 ++ digits 56 0x02040810204081 ++ digits 10 512 ++ replicate 1536 0 ++ digits 12 2048 ++ replicate 18432 0)
 
 -- and one is that long
-pub ticket-longest : (ticketOf longTicket ≡ given (record { slots = replicate 8 1; disks = replicate 512 0; refs = replicate 2048 0 })) × (length longTicket ≡ 2507)
+pub ticket-longest : (t : List ℕ) × (j : Job) × (ticketOf t ≡ given j) × (length t ≡ 2507)
 unfolding longTicket _>>=_ _>>_ bind give field refuseIf many isClosed closing answer readAll slotsField diskField refField ticketReader ticketOf
-ticket-longest = (refl, refl)
+ticket-longest = (longTicket, record { slots = replicate 8 1; blockDisks = replicate 512 0; refs = replicate 2048 0 }, refl, refl)
 
 -- an action takes at most 20 bits
 
@@ -105,7 +109,7 @@ unfolding Allowed Each
 allowed-each j few s [] h = tt
 allowed-each j few s (actions ∷ more) h = ((let e = h .0 in omega (arith, e)), allowed-each j few _ more (h .3))
 
-pub passed-length : (t s : List ℕ) (c : Counts) → checking t s ≡ given c → length s ≤ 40962
+pub passed-length : (t s : List ℕ) (c : Counts) → checkAnswer t s ≡ given c → length s ≤ 40962
 unfolding sheetBits
 passed-length t s c e =
     let p = passed t s c e in

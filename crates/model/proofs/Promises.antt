@@ -1,51 +1,76 @@
--- All that is promised of tickets and sheets, over bytes, in document 01's terms. Each promise is closed by one citation. `ticketOf`, `checking` and
--- `planning` (specs/Ticket.antt, specs/Calls.antt) say what document 01's calls give for any bytes: `given` a value, or `refused` with a number.
--- Assumes nothing.
+-- All that is promised of tickets and sheets, over bytes, in document 01's terms. Each promise is closed by one citation. `ticketOf`, `checkAnswer` and
+-- `planAnswer` (specs/Ticket.antt, specs/Calls.antt) say what document 01's calls give for any bytes: `given` a value, or `refused` with a number.
+-- The code is tied to them by its contracts, which are equations with these definitions for every input: `planner::check` returns `checkAnswer`,
+-- `planner::plan` returns and writes `planAnswer`, `planner::part` gives `partOf` (crates/planner/src/lib.rt). Assumes nothing.
 use mathlib.Core.Path.{_≡_}
 use mathlib.Core.Logic.{_↔_}
-use mathlib.Core.List.{List}
+use mathlib.Core.Bool.{true}
+use mathlib.Core.List.{List, []}
+use mathlib.Core.Option.{none, some}
 use Prim.Native.Nat.{ℕ, suc, _≤_, _<_}
-use lib.ListN.{length, take}
-use Rattle.bits.specs.Reading.{given}
-use Rattle.model.specs.Job.{Job, refCount}
-use Rattle.model.specs.Ticket.{ticketOf}
-use Rattle.model.specs.Playing.{Schedule, start, play, rounds}
+use lib.ListN.{length, take, replicate}
+use Rattle.bits.specs.Bits.{pack}
+use Rattle.bits.specs.Reading.{given, refused}
+use Rattle.model.specs.Job.{Job, Sound, refCount}
+use Rattle.model.specs.Ticket.{ticketBits, ticketOf}
+use Rattle.model.specs.Playing.{replace, Schedule, start, play, rounds}
 use Rattle.model.specs.Rules.{short, sparing}
 use Rattle.model.specs.Plans.{scheduleOf}
 use Rattle.model.specs.Sheet.{sheetOf}
-use Rattle.model.specs.Valid.{ValidSheet}
-use Rattle.model.specs.Calls.{Counts, countsOf, fetchesOn, shortCounts, sparingCounts, isSparing, Planned, handed, handedCounts, planning, checking}
+use Rattle.model.specs.Valid.{ValidTicket, ValidSheet}
+use Rattle.model.specs.Calls.{Counts, countsOf, fetchesOn, AllZero, shortCounts, sparingCounts, isSparing, Planned, handed, handedCounts, planAnswer, shortAfter, sparingAfter, returned, partAfter, checkAnswer, countsGiven, checkRefusals, planRefusals, among, countsNumbers, planningNumbers, countsWritten}
 use Rattle.model.proofs.Choosing.{short-lawful, sparing-lawful}
+use Rattle.model.proofs.Ticket
 use Rattle.model.proofs.Bytes
+use Rattle.model.proofs.Refusals
+use Rattle.model.proofs.Longest
 
--- 1. Demand 3. Whatever bytes t read as an accepted ticket, and whatever bytes s the check passes as its sheet, whoever drew it up: the rounds
--- given with the pass are at least the short plan's, and the fetches on every disk at least the sparing plan's.
-pub unbeaten : (t s : List ℕ) (j : Job) (c : Counts) → ticketOf t ≡ given j → checking t s ≡ given c
-    → (shortCounts j .rounds ≤ c .rounds) × ((d : ℕ) → fetchesOn (sparingCounts j) d ≤ fetchesOn c d)
-unbeaten = Bytes.unbeaten
+-- 1. Demand 1. A ticket is accepted, and says the job j, exactly if j is sound and the bytes are its fields in order, then fewer than eight zero
+-- bits (specs/Valid.antt).
+pub accepted-exactly : (t : List ℕ) (j : Job) → (ticketOf t ≡ given j) ↔ ValidTicket t j
+accepted-exactly t j = (Ticket.accepted-valid t j, Ticket.valid-accepted t j)
 
--- 2. Demand 2. Each plan of an accepted ticket, written as a sheet and read by the check, passes with the planner's own rounds and fetches.
-pub short-passes : (t : List ℕ) (j : Job) → ticketOf t ≡ given j → checking t (sheetOf (scheduleOf short j)) ≡ given (countsOf (scheduleOf short j))
+-- Every sound job has a ticket: its fields in order, packed.
+pub sound-accepted : (j : Job) → Sound j → ticketOf (pack (ticketBits j)) ≡ given j
+sound-accepted = Ticket.sound-accepted
+
+-- A refused check gives one of 1 to 16, a refused planning call one of 1 to 8, 17 and 18; and each of these numbers is given for some bytes.
+pub check-numbers : (n : ℕ) → (among n checkRefusals ≡ true) ↔ ((t : List ℕ) × (s : List ℕ) × (checkAnswer t s ≡ refused n))
+check-numbers = Refusals.check-numbers
+
+pub plan-numbers : (n : ℕ) → (among n planRefusals ≡ true) ↔ ((t : List ℕ) × (room₁ : ℕ) × (room₂ : ℕ) × (planAnswer t room₁ room₂ ≡ refused n))
+plan-numbers = Refusals.plan-numbers
+
+-- "A refused call returns its number with all counts 0 and no mark, hands out no part, and changes no lent byte."
+pub check-refused : (n : ℕ) (lent : List ℕ) → AllZero (countsGiven (refused n)) × (countsWritten countsNumbers (refused n) lent ≡ lent)
+check-refused = Refusals.check-refused
+
+pub plan-refused : (n : ℕ) (lent other : List ℕ)
+    → (let r = returned (refused n) in (r .number ≡ n) × (r .mark ≡ none) × (r .partLength ≡ 0) × AllZero (r .short) × AllZero (r .sparing))
+    × (partAfter (refused n) lent other ≡ [])
+    × (shortAfter (refused n) lent ≡ lent)
+    × (sparingAfter (refused n) lent ≡ lent)
+    × (countsWritten planningNumbers (refused n) lent ≡ lent)
+plan-refused = Refusals.plan-refused
+
+-- 2. Demand 2. The check passes a sheet exactly if it is a valid schedule of the ticket's job (specs/Valid.antt), and with that schedule's counts.
+pub passes-exactly : (t s : List ℕ) (c : Counts) → (checkAnswer t s ≡ given c)
+    ↔ ((j : Job) × (schedule : Schedule) × (ticketOf t ≡ given j) × ValidSheet j s schedule × (countsOf schedule ≡ c))
+passes-exactly = Bytes.passes-exactly
+
+-- Each plan of an accepted ticket, written as a sheet and read by the check, passes with the planner's own rounds and fetches.
+pub short-passes : (t : List ℕ) (j : Job) → ticketOf t ≡ given j → checkAnswer t (sheetOf (scheduleOf short j)) ≡ given (countsOf (scheduleOf short j))
 short-passes = Bytes.schedule-passes short short-lawful
 
-pub sparing-passes : (t : List ℕ) (j : Job) → ticketOf t ≡ given j → checking t (sheetOf (scheduleOf sparing j)) ≡ given (countsOf (scheduleOf sparing j))
+pub sparing-passes : (t : List ℕ) (j : Job) → ticketOf t ≡ given j → checkAnswer t (sheetOf (scheduleOf sparing j)) ≡ given (countsOf (scheduleOf sparing j))
 sparing-passes = Bytes.schedule-passes sparing sparing-lawful
 
--- 3. A planning call that is not refused hands back the sparing sheet exactly when both plans take equally many rounds, otherwise the short one.
--- What it hands back is as long as it says, passes the check with the counts given for it, and no sheet that passes takes fewer rounds.
-pub handed-back : (t : List ℕ) (a b : ℕ) (p : Planned) → planning t a b ≡ given p
-    → ((p .mark ≡ isSparing) ↔ (p .short .rounds ≡ p .sparing .rounds))
-    × (length (handed p) ≡ p .part)
-    × (checking t (handed p) ≡ given (handedCounts p))
-    × ((s : List ℕ) (c : Counts) → checking t s ≡ given c → handedCounts p .rounds ≤ c .rounds)
-handed-back = Bytes.handed-back
-
 -- "A planning call that is not refused gives these same numbers for the plans", and writes their sheets.
-pub planned-counts : (t : List ℕ) (j : Job) (a b : ℕ) (p : Planned) → ticketOf t ≡ given j → planning t a b ≡ given p
+pub planned-counts : (t : List ℕ) (j : Job) (room₁ room₂ : ℕ) (p : Planned) → ticketOf t ≡ given j → planAnswer t room₁ room₂ ≡ given p
     → (p .short ≡ shortCounts j) × (p .sparing ≡ sparingCounts j) × (p .shortSheet ≡ sheetOf (scheduleOf short j)) × (p .sparingSheet ≡ sheetOf (scheduleOf sparing j))
 planned-counts = Bytes.planned-counts
 
--- 4. "In either plan every round consumes at least one reference, so neither takes more than N rounds": so at most 2,048, and either sheet fits
+-- "In either plan every round consumes at least one reference, so neither takes more than N rounds": so at most 2,048, and either sheet fits
 -- the longest sheet's room.
 pub short-rounds : (t : List ℕ) (j : Job) → ticketOf t ≡ given j
     → ((k : ℕ) → k < rounds (scheduleOf short j) → play j (start j) (take k (scheduleOf short j)) .next < play j (start j) (take (suc k) (scheduleOf short j)) .next)
@@ -57,7 +82,42 @@ pub sparing-rounds : (t : List ℕ) (j : Job) → ticketOf t ≡ given j
     × (rounds (scheduleOf sparing j) ≤ refCount j) × (rounds (scheduleOf sparing j) ≤ 2048) × (length (sheetOf (scheduleOf sparing j)) ≤ 40962)
 sparing-rounds = Bytes.rounds-few sparing sparing-lawful
 
--- 5. The check passes a sheet exactly if it is a valid schedule of the ticket's job (specs/Valid.antt), and with that schedule's counts.
-pub passes-exactly : (t s : List ℕ) (c : Counts) → (checking t s ≡ given c)
-    ↔ ((j : Job) × (schedule : Schedule) × (ticketOf t ≡ given j) × ValidSheet j s schedule × (countsOf schedule ≡ c))
-passes-exactly = Bytes.passes-exactly
+-- 3. Demand 3. Whatever bytes t read as an accepted ticket, and whatever bytes s the check passes as its sheet, whoever drew it up: the rounds
+-- given with the pass are at least the short plan's, and the fetches on every disk at least the sparing plan's.
+pub unbeaten : (t s : List ℕ) (j : Job) (c : Counts) → ticketOf t ≡ given j → checkAnswer t s ≡ given c
+    → (shortCounts j .rounds ≤ c .rounds) × ((d : ℕ) → fetchesOn (sparingCounts j) d ≤ fetchesOn c d)
+unbeaten = Bytes.unbeaten
+
+-- A planning call that is not refused hands back the sparing sheet exactly when both plans take equally many rounds, otherwise the short one. What
+-- it hands back is as long as it says and passes the check with the counts given for it; no sheet that passes takes fewer rounds, nor on any
+-- disk fewer fetches than the sparing plan.
+pub handed-back : (t : List ℕ) (room₁ room₂ : ℕ) (p : Planned) → planAnswer t room₁ room₂ ≡ given p
+    → ((p .mark ≡ isSparing) ↔ (p .short .rounds ≡ p .sparing .rounds))
+    × (length (handed p) ≡ p .partLength)
+    × (checkAnswer t (handed p) ≡ given (handedCounts p))
+    × ((s : List ℕ) (c : Counts) → checkAnswer t s ≡ given c → (handedCounts p .rounds ≤ c .rounds) × ((d : ℕ) → fetchesOn (p .sparing) d ≤ fetchesOn c d))
+handed-back = Bytes.handed-back
+
+-- It returns the number 0, the mark, the length of the sheet that is handed back, and both plans' counts.
+pub plan-given : (t : List ℕ) (room₁ room₂ : ℕ) (p : Planned) → planAnswer t room₁ room₂ ≡ given p
+    → (let r = returned (given p) in (r .number ≡ 0) × (r .mark ≡ some (p .mark)) × (r .partLength ≡ length (handed p)) × (r .short ≡ p .short) × (r .sparing ≡ p .sparing))
+plan-given = Bytes.plan-given
+
+-- "The answer is the part of one of the two lent buffers that holds the chosen sheet": the part of the two buffers, as the call left them, is that
+-- sheet, byte for byte. (`plan-refused` has the part after a refusal; crates/planner/proofs/Joined.antt says both of the values of the code.)
+pub part-handed : (t lent₁ lent₂ : List ℕ) (p : Planned) → planAnswer t (length lent₁) (length lent₂) ≡ given p → partAfter (given p) lent₁ lent₂ ≡ handed p
+part-handed = Bytes.part-handed
+
+-- 4. "The longest ticket has 2,507 bytes, the longest sheet 40,962": no accepted ticket and no sheet that passes is longer, and a ticket of that
+-- length is accepted. A sheet of 2,048 rounds of eight actions that each discard a block has 40,962 bytes.
+pub ticket-length : (t : List ℕ) (j : Job) → ticketOf t ≡ given j → length t ≤ 2507
+ticket-length = Longest.ticket-length
+
+pub ticket-longest : (t : List ℕ) × (j : Job) × (ticketOf t ≡ given j) × (length t ≡ 2507)
+ticket-longest = Longest.ticket-longest
+
+pub sheet-length : (t s : List ℕ) (c : Counts) → checkAnswer t s ≡ given c → length s ≤ 40962
+sheet-length = Longest.passed-length
+
+pub sheet-longest : length (sheetOf (replicate 2048 (replicate 8 (replace 1 0)))) ≡ 40962
+sheet-longest = Longest.sheet-longest

@@ -9,7 +9,7 @@ use lib.Dec.{eqb, ltb, leb}
 use lib.ListN.{length, getD, set, length-set, length-replicate}
 use borrow.Author.Tests.{eqb-true, eqb-false, ltb-true, ltb-false, leb-true, leb-false}
 use Rattle.bits.proofs.Logic.{by-test, clash}
-use Rattle.model.specs.Job.{Job, diskCount, blockCount, refCount, slotsOf, diskOf}
+use Rattle.model.specs.Job.{Job, diskCount, blockCount, slotsOf, diskOf}
 use Rattle.model.specs.Playing.{Action, idle, fetch, replace, State, start, noneResident, isResident, load, act, actAll, playRound, fetched}
 use Rattle.model.specs.Rules.{distance}
 use Rattle.model.specs.Valid.{LegalAll, Round, Ready}

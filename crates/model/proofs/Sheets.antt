@@ -30,11 +30,11 @@ RoomAll j marks d [] = Unit {0}
 RoomAll j marks d (a ∷ more) = Room j marks d a × RoomAll j (act marks a) (suc d) more
 
 -- What reading an action gives.
-record ActionRead (j : Job) (marks : List Bool) (d : ℕ) (l : List ℕ) (a : Action) (rest : List ℕ) : Type 0 where
-  wrote : l ≡ actionBits a ++ rest
-  bits : Bits rest
-  legal : Legal j marks d a
-  room : Room j marks d a
+pub record ActionRead (j : Job) (marks : List Bool) (d : ℕ) (l : List ℕ) (a : Action) (rest : List ℕ) : Type 0 where
+  pub wrote : l ≡ actionBits a ++ rest
+  pub bits : Bits rest
+  pub legal : Legal j marks d a
+  pub room : Room j marks d a
 
 -- a field of one bit is that bit
 small-digit : (v : ℕ) → v < 2 → digits 1 v ≡ v ∷ []
@@ -114,7 +114,7 @@ fetch-read j marks d (suc zero) l a rest p bits e =
     (discard-read j marks d x k l₄ a rest (b .0) (b .2) (block-of j marks d x t₂ t₃) e)
 fetch-read j marks d (suc (suc v)) l a rest p bits e = absurd (omega arith)
 
-action-read : (j : Job) (marks : List Bool) (d : ℕ) (l : List ℕ) (a : Action) (rest : List ℕ) → Bits l
+pub action-read : (j : Job) (marks : List Bool) (d : ℕ) (l : List ℕ) (a : Action) (rest : List ℕ) → Bits l
     → actionReader j marks d l ≡ got a rest → ActionRead j marks d l a rest
 unfolding actionReader
 action-read j marks d l a rest bits e =

@@ -1,113 +1,166 @@
--- What an accepted ticket says of its job, and how long it can be. Assumes nothing.
-use mathlib.Core.Path.{_≡_, refl, ap, subst}
-use mathlib.Core.Bool.{_||_}
-use mathlib.Core.List.{List}
-use Prim.Native.Nat.{ℕ, zero, suc, _+_, _*_, _≤_, _<_}
+-- The tickets that are accepted are those of sound jobs: what was read was written so, and what is written so is read. Assumes nothing.
+use mathlib.Core.Path.{_≡_, refl, ap, _∙_, subst}
+use mathlib.Core.Bool.{false, _||_}
+use mathlib.Core.List.{List, [], _++_, append-assoc, append-nil}
+use Prim.Native.Nat.{ℕ, zero, suc, _+_, _*_, _^_, _≤_, _<_}
 use native.Mathlib.Omega.{arith}
 use lib.Dec.{ltb, leb, eqb}
-use lib.ListN.{length}
-use borrow.Author.Tests.{ltb-false, leb-false, eqb-false}
-use Rattle.bits.specs.Reading.{got, _>>=_, _>>_, give, field, refuseIf, many, closing}
-use Rattle.bits.proofs.Logic.{or-false-left, or-false-right, Each, each-at}
-use Rattle.bits.proofs.Reading.{bind-got, then-got, give-got, refuse-got, field-length, closing-got, Takes, many-takes}
+use lib.ListN.{length, replicate, length-append}
+use borrow.Author.Tests.{ltb-false, le-ltb, leb-false, lt-leb, eqb-false, ne-eqb}
+use Rattle.bits.specs.Bits.{digits, fields, bits, pack}
+use Rattle.bits.specs.Reading.{given, got, _>>=_, _>>_, give, field, refuseIf, many, closing}
+use Rattle.bits.proofs.Logic.{or-false-left, or-false-right, Each, each-at, at-each}
+use Rattle.bits.proofs.Bits.{Bits, digits-are, bits-are, bits-pack, length-digits, field-wrote, field-digits}
+use Rattle.bits.proofs.Reading.{bind-got, then-got, give-got, refuse-got, closing-got, bind-ok, then-ok, refuse-ok, zero-list, closing-zeros, readAll-given, readAll-ok}
+use Rattle.bits.proofs.Repeated.{length-fields, fields-are, Exactly, tested, many-wrote, many-reads}
 use Rattle.model.specs.Job.{Job, Sound, diskCount, blockCount, refCount}
-use Rattle.model.specs.Ticket.{slotsField, diskField, refField, ticketReader}
+use Rattle.model.specs.Ticket.{ticketBits, slotsField, diskField, refField, ticketReader, ticketOf}
+use Rattle.model.specs.Valid.{ValidTicket}
 
--- the bits of the fields of a ticket
-abbrev pub ticketWidth : Job → ℕ
-ticketWidth j = 26 + diskCount j * 7 + blockCount j * 3 + refCount j * 9
+-- one field of each table, and its values
 
-above-zero : {n : ℕ} → eqb n 0 ≡ mathlib.Core.Bool.false → 1 ≤ n
-above-zero {n} e = go n e
-  where
-    go : (m : ℕ) → eqb m 0 ≡ mathlib.Core.Bool.false → 1 ≤ m
-    go zero e = absurd (eqb-false 0 0 e refl)
-    go (suc m) e = omega arith
+above-zero : (n : ℕ) → eqb n 0 ≡ false → 1 ≤ n
+above-zero zero e = absurd (eqb-false 0 0 e refl)
+above-zero (suc n) e = omega arith
 
 -- 0 and above a limit are both excluded
-within : (n k : ℕ) → eqb n 0 || ltb k n ≡ mathlib.Core.Bool.false → (1 ≤ n) × (n ≤ k)
-within n k e = (above-zero (or-false-left (eqb n 0) (ltb k n) e), ltb-false k n (or-false-right (eqb n 0) (ltb k n) e))
+within : (n k : ℕ) → eqb n 0 || ltb k n ≡ false → (1 ≤ n) × (n ≤ k)
+within n k e = (above-zero n (or-false-left (eqb n 0) (ltb k n) e), ltb-false k n (or-false-right (eqb n 0) (ltb k n) e))
 
-slots-takes : Takes 7 (λ (s : ℕ). (1 ≤ s) × (s ≤ 64)) slotsField
+not-out : (n k : ℕ) → 1 ≤ n → n ≤ k → eqb n 0 || ltb k n ≡ false
+not-out n k p q = rw (ne-eqb n 0 (λ z. omega (arith, z, p)), le-ltb k n q)
+
+slots-exactly : Exactly 7 (λ (s : ℕ). (1 ≤ s) × (s ≤ 64)) slotsField
 unfolding slotsField
-slots-takes = record {
-  taken = λ l a rest e.
-      bind-got (field 1 7) _ l e λ s l₁ e₁ e.
-      then-got (refuseIf 3 (eqb s 0 || ltb 64 s)) _ l₁ e λ u l₂ e₂ e.
-      refuse-got 3 (eqb s 0 || ltb 64 s) l₁ e₂ λ t q.
-      give-got e λ p r.
-      let w = field-length 1 7 l e₁ in
-      let m = ap length q in
-      let n = ap length r in
-      (omega (arith, w, m, n), subst (λ (x : ℕ). (1 ≤ x) × (x ≤ 64)) p (within s 64 t));
-}
+slots-exactly = tested 1 3 7 _ _
+    (λ s t. let w = within s _ t in (w .0, let k = w .1 in omega (arith, k)))
+    (λ s p. let k = p .1 in (omega (arith, k), not-out s _ (p .0) (omega (arith, k))))
 
--- a field of w bits that is refused with n from a limit on
-limited-takes : (n w k : ℕ) → Takes w (λ (x : ℕ). x < k) (field 1 w >>= λ x. refuseIf n (leb k x) >> give x)
-limited-takes n w k = record {
-  taken = λ l a rest e.
-      bind-got (field 1 w) _ l e λ x l₁ e₁ e.
-      then-got (refuseIf n (leb k x)) _ l₁ e λ u l₂ e₂ e.
-      refuse-got n (leb k x) l₁ e₂ λ t q.
-      give-got e λ p r.
-      let i = field-length 1 w l e₁ in
-      let m = ap length q in
-      let o = ap length r in
-      (omega (arith, i, m, o), subst (λ (y : ℕ). y < k) p (leb-false k x t));
-}
+-- a number below a limit that the field's width holds
+below-exactly : (n m w k : ℕ) → k ≤ 2 ^ w → Exactly w (λ (x : ℕ). x < k) (field n w >>= λ x. refuseIf m (leb k x) >> give x)
+below-exactly n m w k h = tested n m w (λ x. leb k x) _ (λ x t. leb-false k x t) (λ x p. (omega (arith, h, p), lt-leb k x p))
 
-disk-takes : (disks : ℕ) → Takes 3 (λ (x : ℕ). x < disks) (diskField disks)
+disk-exactly : (disks : ℕ) → disks ≤ 8 → Exactly 3 (λ (x : ℕ). x < disks) (diskField disks)
 unfolding diskField
-disk-takes disks = limited-takes 5 3 disks
+disk-exactly disks h = below-exactly 1 5 3 disks h
 
-ref-takes : (blocks : ℕ) → Takes 9 (λ (x : ℕ). x < blocks) (refField blocks)
+ref-exactly : (blocks : ℕ) → blocks ≤ 512 → Exactly 9 (λ (x : ℕ). x < blocks) (refField blocks)
 unfolding refField
-ref-takes blocks = limited-takes 7 9 blocks
+ref-exactly blocks h = below-exactly 1 7 9 blocks h
 
--- the job that a ticket's reading gives is sound, and the fields with fewer than eight closing bits are the whole
-pub reader-sound : (l : List ℕ) (j : Job) (rest : List ℕ) → ticketReader l ≡ got j rest → Sound j × (length l < ticketWidth j + 8)
+-- the fields, each with its values, make a sound job,
+sound-of : (slots disks refs : List ℕ) → (1 ≤ length slots) × (length slots ≤ 8) → (1 ≤ length disks) × (length disks ≤ 512) → length refs ≤ 2048
+    → Each (λ (s : ℕ). (1 ≤ s) × (s ≤ 64)) slots → Each (λ (x : ℕ). x < length slots) disks → Each (λ (x : ℕ). x < length disks) refs
+    → Sound (record { slots = slots; blockDisks = disks; refs = refs })
+sound-of slots disks refs d b n s k r = record {
+  someDisk = d .0;
+  fewDisks = d .1;
+  someSlot = λ e h. each-at _ slots s e 0 h .0;
+  fewSlots = λ e h. (let k = each-at _ slots s e 0 h .1 in omega (arith, k));
+  someBlock = b .0;
+  fewBlocks = b .1;
+  onDisks = λ c h. each-at _ disks k c 0 h;
+  fewRefs = n;
+  toBlocks = λ i h. each-at _ refs r i 0 h;
+}
+
+-- and one after the other they are its ticket
+joined : (slots disks refs : List ℕ) {l l₁ l₂ l₃ l₄ l₅ l₆ l₇ l₈ l₉ z : List ℕ}
+    → l ≡ digits 4 (length slots) ++ l₁ → l₁ ≡ l₂ → l₂ ≡ fields 7 slots ++ l₃ → l₃ ≡ digits 10 (length disks) ++ l₄ → l₄ ≡ l₅
+    → l₅ ≡ fields 3 disks ++ l₆ → l₆ ≡ digits 12 (length refs) ++ l₇ → l₇ ≡ l₈ → l₈ ≡ fields 9 refs ++ l₉ → l₉ ≡ z
+    → l ≡ ticketBits (record { slots = slots; blockDisks = disks; refs = refs }) ++ z
+unfolding ticketBits
+joined slots disks refs a q s b r d n u f g = simp append-assoc (cc)
+
+-- What was read is a sound job, and was written so.
+pub reader-wrote : (l : List ℕ) (j : Job) (rest : List ℕ) → Bits l → ticketReader l ≡ got j rest
+    → Sound j × (k : ℕ) × (k < 8) × (l ≡ ticketBits j ++ replicate k 0)
 unfolding ticketReader
-reader-sound l j rest e =
+reader-wrote l j rest bits e =
     bind-got (field 1 4) _ l e λ d l₁ e₁ e.
-    then-got (refuseIf 2 (eqb d 0 || ltb 8 d)) _ l₁ e λ _ l₂ e₂ e.
-    refuse-got 2 (eqb d 0 || ltb 8 d) l₁ e₂ λ t₂ q₂.
+    then-got (refuseIf 2 _) _ l₁ e λ _ l₂ e₂ e.
+    refuse-got 2 _ l₁ e₂ λ t₂ q₂.
     bind-got (many d slotsField) _ l₂ e λ slots l₃ e₃ e.
     bind-got (field 1 10) _ l₃ e λ b l₄ e₄ e.
-    then-got (refuseIf 4 (eqb b 0 || ltb 512 b)) _ l₄ e λ _ l₅ e₅ e.
-    refuse-got 4 (eqb b 0 || ltb 512 b) l₄ e₅ λ t₅ q₅.
+    then-got (refuseIf 4 _) _ l₄ e λ _ l₅ e₅ e.
+    refuse-got 4 _ l₄ e₅ λ t₅ q₅.
     bind-got (many b (diskField d)) _ l₅ e λ disks l₆ e₆ e.
     bind-got (field 1 12) _ l₆ e λ n l₇ e₇ e.
-    then-got (refuseIf 6 (ltb 2048 n)) _ l₇ e λ _ l₈ e₈ e.
-    refuse-got 6 (ltb 2048 n) l₇ e₈ λ t₈ q₈.
+    then-got (refuseIf 6 _) _ l₇ e λ _ l₈ e₈ e.
+    refuse-got 6 _ l₇ e₈ λ t₈ q₈.
     bind-got (many n (refField b)) _ l₈ e λ refs l₉ e₉ e.
     then-got (closing 8) _ l₉ e λ _ l₀ e₀ e.
     closing-got 8 l₉ e₀ λ few zeros.
     give-got e λ p _.
-    finish d slots b disks n refs l l₁ l₂ l₃ l₄ l₅ l₆ l₇ l₈ l₉ j p
-    (within d 8 t₂) (within b 512 t₅) (ltb-false 2048 n t₈)
-    (field-length 1 4 l e₁) (ap length q₂) (many-takes slotsField slots-takes d l₂ e₃)
-    (field-length 1 10 l₃ e₄) (ap length q₅) (many-takes (diskField d) (disk-takes d) b l₅ e₆)
-    (field-length 1 12 l₆ e₇) (ap length q₈) (many-takes (refField b) (ref-takes b) n l₈ e₉) few
-  where
-    finish : (d : ℕ) (slots : List ℕ) (b : ℕ) (disks : List ℕ) (n : ℕ) (refs l l₁ l₂ l₃ l₄ l₅ l₆ l₇ l₈ l₉ : List ℕ) (j : Job)
-        → record { slots = slots; disks = disks; refs = refs } ≡ j
-        → (1 ≤ d) × (d ≤ 8) → (1 ≤ b) × (b ≤ 512) → n ≤ 2048
-        → length l ≡ 4 + length l₁ → length l₁ ≡ length l₂ → (length slots ≡ d) × (length l₂ ≡ d * 7 + length l₃) × Each (λ (s : ℕ). (1 ≤ s) × (s ≤ 64)) slots
-        → length l₃ ≡ 10 + length l₄ → length l₄ ≡ length l₅ → (length disks ≡ b) × (length l₅ ≡ b * 3 + length l₆) × Each (λ (x : ℕ). x < d) disks
-        → length l₆ ≡ 12 + length l₇ → length l₇ ≡ length l₈ → (length refs ≡ n) × (length l₈ ≡ n * 9 + length l₉) × Each (λ (x : ℕ). x < b) refs
-        → length l₉ < 8 → Sound j × (length l < ticketWidth j + 8)
-    finish d slots b disks n refs l l₁ l₂ l₃ l₄ l₅ l₆ l₇ l₈ l₉ j p td tb tn w₁ w₂ w₃ w₄ w₅ w₆ w₇ w₈ w₉ few =
-        subst (λ (x : Job). Sound x × (length l < ticketWidth x + 8)) p (
-          record {
-            someDisk = omega arith;
-            fewDisks = omega arith;
-            someSlot = λ e h. each-at _ slots (w₃ .2) e 0 h .0;
-            fewSlots = λ e h. each-at _ slots (w₃ .2) e 0 h .1;
-            someBlock = omega arith;
-            fewBlocks = omega arith;
-            onDisks = λ c h. (let k = each-at (λ (x : ℕ). x < d) disks (w₆ .2) c 0 h in omega (arith, k));
-            fewRefs = omega arith;
-            toBlocks = λ i h. (let k = each-at (λ (x : ℕ). x < b) refs (w₉ .2) i 0 h in omega (arith, k));
-          },
-          omega arith,
-        )
+    let td = within d _ t₂ in
+    let tb = within b _ t₅ in
+    let w₁ = field-wrote 1 4 l bits e₁ in
+    let w₃ = many-wrote slots-exactly d l₂ (subst Bits q₂ (w₁ .2)) e₃ in
+    let w₄ = field-wrote 1 10 l₃ (w₃ .3) e₄ in
+    let w₆ = many-wrote (disk-exactly d (td .1)) b l₅ (subst Bits q₅ (w₄ .2)) e₆ in
+    let w₇ = field-wrote 1 12 l₆ (w₆ .3) e₇ in
+    let w₉ = many-wrote (ref-exactly b (tb .1)) n l₈ (subst Bits q₈ (w₇ .2)) e₉ in
+    subst (λ (x : Job). Sound x × (k : ℕ) × (k < 8) × (l ≡ ticketBits x ++ replicate k 0)) p (
+      sound-of slots disks refs
+          (rw (w₃ .0) td)
+          (rw (w₆ .0) tb)
+          (rw (w₉ .0) (ltb-false _ n t₈))
+          (w₃ .1)
+          (rw (w₃ .0) (w₆ .1))
+          (rw (w₆ .0) (w₉ .1)),
+      length l₉,
+      few,
+      joined slots disks refs (rw (w₃ .0) (w₁ .1)) q₂ (w₃ .2) (rw (w₆ .0) (w₄ .1)) q₅ (w₆ .2) (rw (w₉ .0) (w₇ .1)) q₈ (w₉ .2) (zero-list l₉ zeros),
+    )
+
+-- A sound job, written so, is read.
+pub ticket-written : (j : Job) → Sound j → (k : ℕ) → k < 8 → ticketReader (ticketBits j ++ replicate k 0) ≡ got j []
+unfolding ticketReader ticketBits give
+ticket-written j sound k few =
+    let d = sound .fewDisks in
+    let b = sound .fewBlocks in
+    let n = sound .fewRefs in
+    let slots = at-each (λ (s : ℕ). (1 ≤ s) × (s ≤ 64)) (j .slots) 0 (λ i h. (sound .someSlot i h, let k = sound .fewSlots i h in omega (arith, k))) in
+    let disks = at-each (λ (x : ℕ). x < diskCount j) (j .blockDisks) 0 (sound .onDisks) in
+    let refs = at-each (λ (x : ℕ). x < blockCount j) (j .refs) 0 (sound .toBlocks) in
+    ap ticketReader (simp append-assoc)
+    ∙ bind-ok (field 1 4) _ _ (field-digits 1 4 (diskCount j) _ (omega (arith, d)))
+    ∙ then-ok (refuseIf 2 _) _ _ (refuse-ok 2 _ _ (not-out (diskCount j) _ (sound .someDisk) d))
+    ∙ bind-ok (many (diskCount j) slotsField) _ _ (many-reads slots-exactly (j .slots) _ slots)
+    ∙ bind-ok (field 1 10) _ _ (field-digits 1 10 (blockCount j) _ (omega (arith, b)))
+    ∙ then-ok (refuseIf 4 _) _ _ (refuse-ok 4 _ _ (not-out (blockCount j) _ (sound .someBlock) b))
+    ∙ bind-ok (many (blockCount j) (diskField (diskCount j))) _ _ (many-reads (disk-exactly (diskCount j) d) (j .blockDisks) _ disks)
+    ∙ bind-ok (field 1 12) _ _ (field-digits 1 12 (refCount j) _ (omega (arith, n)))
+    ∙ then-ok (refuseIf 6 _) _ _ (refuse-ok 6 _ _ (le-ltb _ (refCount j) n))
+    ∙ bind-ok (many (refCount j) (refField (blockCount j))) _ _ (many-reads (ref-exactly (blockCount j) b) (j .refs) _ refs)
+    ∙ then-ok (closing 8) _ _ (closing-zeros 8 k few)
+
+-- "A ticket is accepted if its reading meets none of the ticket's conditions."
+
+pub accepted-valid : (t : List ℕ) (j : Job) → ticketOf t ≡ given j → ValidTicket t j
+unfolding ticketOf
+accepted-valid t j e = readAll-given ticketReader t e λ rest r.
+    let w = reader-wrote (bits t) j rest (bits-are t) r in
+    record { sound = w .0; closingBits = w .1; fewClosing = w .2; written = w .3 }
+
+pub valid-accepted : (t : List ℕ) (j : Job) → ValidTicket t j → ticketOf t ≡ given j
+unfolding ticketOf
+valid-accepted t j v = readAll-ok ticketReader t (ap ticketReader (v .written) ∙ ticket-written j (v .sound) (v .closingBits) (v .fewClosing))
+
+-- a sound job's own ticket
+
+ticket-bits : (j : Job) → Bits (ticketBits j)
+unfolding ticketBits Bits Each
+ticket-bits j =
+    digits-are 4 (diskCount j) _ (fields-are 7 (j .slots) _ (digits-are 10 (blockCount j) _ (fields-are 3 (j .blockDisks) _
+    (digits-are 12 (refCount j) _ (rw append-nil at (fields-are 9 (j .refs) [] tt))))))
+
+pub sound-accepted : (j : Job) → Sound j → ticketOf (pack (ticketBits j)) ≡ given j
+sound-accepted j sound =
+    let p = bits-pack (ticketBits j) (ticket-bits j) in
+    valid-accepted (pack (ticketBits j)) j (record { sound = sound; closingBits = p .0; fewClosing = p .1; written = p .2 })
+
+-- how long a ticket is
+pub length-ticket : (j : Job) → length (ticketBits j) ≡ 26 + diskCount j * 7 + blockCount j * 3 + refCount j * 9
+unfolding ticketBits
+length-ticket j = simp (length-append, length-digits, length-fields) (omega arith)

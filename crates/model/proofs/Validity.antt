@@ -1,17 +1,17 @@
 -- The schedules that the check allows are the valid ones: its tests, action by action, say what legality, A1 and A2 say. Assumes nothing.
-use mathlib.Core.Path.{_≡_, refl, sym, ap, _∙_, subst}
-use mathlib.Core.Bool.{Bool, true}
+use mathlib.Core.Path.{_≡_, sym, ap, _∙_, subst}
+use mathlib.Core.Bool.{Bool}
 use mathlib.Core.List.{List, [], _∷_, _++_}
 use Prim.Native.Nat.{ℕ, suc, _+_, _≤_, _<_}
 use native.Mathlib.Nat.{le-antisymm}
 use native.Mathlib.Omega.{arith}
 use lib.Dec.{eqb}
-use lib.ListN.{length, replicate}
+use lib.ListN.{length}
 use borrow.Author.Tests.{eqb-true, eqb-false}
 use Rattle.bits.specs.Bits.{bits}
-use Rattle.bits.specs.Reading.{given, allZero}
-use Rattle.bits.proofs.Logic.{by-test, and-left, and-right}
-use Rattle.bits.proofs.Reading.{readAll-ok}
+use Rattle.bits.specs.Reading.{given}
+use Rattle.bits.proofs.Logic.{by-test}
+use Rattle.bits.proofs.Reading.{readAll-ok, zero-list}
 use Rattle.model.specs.Job.{Sound, Job, blockCount, refCount, slotsOf}
 use Rattle.model.specs.Playing.{Action, idle, fetch, replace, Schedule, State, start, load, act, actAll, playRound, play}
 use Rattle.model.specs.Sheet.{sheetBits, sheetReader, scheduleRead}
@@ -95,12 +95,6 @@ valid-finished j s (actions ∷ more) v =
     ap (λ (x : State). play j x more .next) (sym (round-plays j s actions (v .0) (v .1))) ∙ valid-finished j (v .0) more (v .2)
 
 -- sheets
-
-zero-list : (l : List ℕ) → allZero l ≡ true → l ≡ replicate (length l) 0
-unfolding allZero
-zero-list [] e = refl
-zero-list (b ∷ l) e =
-    mathlib.Core.Path.ap₂ (λ (x : ℕ) (m : List ℕ). x ∷ m) (eqb-true b 0 (and-left (eqb b 0) (allZero l) e)) (zero-list l (and-right (eqb b 0) (allZero l) e))
 
 pub read-valid : (j : Job) → Sound j → (s : List ℕ) (schedule : Schedule) → SheetRead j (start j) (bits s) schedule → ValidSheet j s schedule
 read-valid j sound s schedule r = record {

@@ -5,12 +5,12 @@ use mathlib.Core.List.{List, [], _∷_, _++_, append-assoc}
 use Prim.Native.Nat.{ℕ, zero, suc, _≤_, _<_}
 use native.Mathlib.Omega.{arith}
 use lib.Dec.{ltb, leb, eqb}
-use lib.ListN.{length, replicate, length-replicate}
+use lib.ListN.{length, replicate}
 use borrow.Author.Tests.{lt-ltb, le-ltb, lt-leb, eq-eqb}
 use Rattle.bits.specs.Bits.{digits}
-use Rattle.bits.specs.Reading.{got, _>>=_, give, field, refuseIf, allZero, closing}
+use Rattle.bits.specs.Reading.{got, _>>=_, give, field, refuseIf, closing}
 use Rattle.bits.proofs.Bits.{field-digits}
-use Rattle.bits.proofs.Reading.{bind-ok, then-ok, refuse-ok, closing-ok}
+use Rattle.bits.proofs.Reading.{bind-ok, then-ok, refuse-ok, closing-zeros}
 use Rattle.model.specs.Job.{Job, diskCount, blockCount, refCount, slotsOf, diskOf}
 use Rattle.model.specs.Playing.{Action, idle, fetch, replace, Schedule, State, isResident, load, act, playRound, play}
 use Rattle.model.specs.Sheet.{actionBits, roundBits, roundsBits, sheetBits, holds, discardReader, fetchReader, actionReader, roundReader, roundsReader, sheetReader}
@@ -97,12 +97,6 @@ module _ (j : Job) (few : blockCount j ≤ 512) where
       ∙ bind-ok (roundReader j (diskCount j) (s .resident) 0) _ (roundBits actions ++ (roundsBits more ++ rest)) (round-written (diskCount j) (s .resident) 0 actions (roundsBits more ++ rest) (h .0) (h .1) (h .2))
       ∙ bind-ok (roundsReader j r (playRound j s actions)) _ (roundsBits more ++ rest) (rounds-written r (playRound j s actions) more rest (omega (arith, e)) (h .3))
 
-  -- the closing bits
-  zeros-are : (k : ℕ) → allZero (replicate k 0) ≡ true
-  unfolding allZero
-  zeros-are zero = refl
-  zeros-are (suc k) = zeros-are k
-
   pub sheet-written : (s : State) (schedule : Schedule) (k : ℕ) → length schedule ≤ 2048 → k < 8 → Allowed j s schedule → refCount j ≤ play j s schedule .next
       → sheetReader j s (sheetBits schedule ++ replicate k 0) ≡ got schedule []
   unfolding sheetReader sheetBits give
@@ -112,4 +106,4 @@ module _ (j : Job) (few : blockCount j ≤ 512) where
       ∙ then-ok (refuseIf 10 (ltb 2048 (length schedule))) _ _ (refuse-ok 10 _ _ (le-ltb 2048 (length schedule) rounds))
       ∙ bind-ok (roundsReader j (length schedule) s) _ _ (rounds-written (length schedule) s schedule (replicate k 0) refl h)
       ∙ then-ok (refuseIf 15 (ltb (play j s schedule .next) (refCount j))) _ _ (refuse-ok 15 _ _ (le-ltb (play j s schedule .next) (refCount j) finished))
-      ∙ then-ok (closing 16) _ _ (closing-ok 16 (replicate k 0) (let l = length-replicate {A = ℕ} k 0 in omega (arith, l)) (zeros-are k))
+      ∙ then-ok (closing 16) _ _ (closing-zeros 16 k short)

@@ -1,9 +1,12 @@
--- What planning and checking give: document 01, "The two plans", its last three paragraphs, and "Numbers of a refused call". Assumes nothing.
-use mathlib.Core.Bool.{cond}
+-- What planning and checking give: document 01, "The two plans", its last three paragraphs, and "Numbers of a refused call". `planAnswer` and
+-- `checkAnswer` are the two calls; `crates/planner/src/lib.rt` has the functions whose contracts are equations with them. Assumes nothing.
+use mathlib.Core.Path.{_≡_}
+use mathlib.Core.Bool.{Bool, false, cond, _||_}
 use mathlib.Core.List.{List, [], _∷_, _++_}
+use mathlib.Core.Option.{Option, none, some}
 use Prim.Native.Nat.{ℕ}
 use lib.Dec.{ltb, eqb}
-use lib.ListN.{length, getD}
+use lib.ListN.{length, getD, replicate, take}
 use Rattle.bits.specs.Bits.{be16, over, laid}
 use Rattle.bits.specs.Reading.{Answer, given, refused}
 use Rattle.model.specs.Job.{Job}
@@ -13,7 +16,7 @@ use Rattle.model.specs.Rules.{short, sparing}
 use Rattle.model.specs.Plans.{each, scheduleOf}
 use Rattle.model.specs.Sheet.{sheetOf, scheduleRead}
 
--- "the rounds and the fetches per disk, 0 for disks the job has not"
+-- "the rounds and the fetches per disk, 0 for disks the job has not": eight fetch counts
 pub record Counts : Type 0 where
   pub rounds : ℕ
   pub fetches : List ℕ
@@ -22,9 +25,17 @@ unfoldable pub countsOf : Schedule → Counts
 unfolding rounds fetches each
 countsOf schedule = record { rounds = rounds schedule; fetches = each (fetches schedule) 0 8 }
 
+-- "all counts 0"
+abbrev pub noCounts : Counts
+noCounts = record { rounds = 0; fetches = replicate 8 0 }
+
 -- the fetches of disk d, 0 for a disk that is not among the eight
 abbrev pub fetchesOn : Counts → ℕ → ℕ
 fetchesOn c d = getD (c .fetches) d 0
+
+-- "all counts 0", as a fact
+abbrev pub AllZero : Counts → Type 0
+AllZero c = (c .rounds ≡ 0) × ((d : ℕ) → fetchesOn c d ≡ 0)
 
 -- "for both plans the rounds and the fetches per disk": they depend on the job alone
 unfoldable pub shortCounts : Job → Counts
@@ -40,34 +51,37 @@ pub data Mark : Type 0 where
   isShort : Mark
   isSparing : Mark
 
+-- "Planning hands back the sparing sheet exactly when both take equally many rounds, otherwise the short one" (the mission's demand 3): the choice
+-- between two plans, by the rounds of the short and of the sparing one. "The choice between two sheets is an inner step which trusts its caller
+-- that both passed."
+unfoldable pub markFor : ℕ → ℕ → Mark
+markFor shortRounds sparingRounds = cond (eqb shortRounds sparingRounds) isSparing isShort
+
+-- what belongs to the marked plan, of what belongs to the short and to the sparing one
+abbrev pub chosen : {A : Type 0} → Mark → A → A → A
+chosen isShort ofShort ofSparing = ofShort
+chosen isSparing ofShort ofSparing = ofSparing
+
 -- What a planning call that is not refused gives: the mark and the length of the part with the chosen sheet, both plans' counts, and what it
 -- writes, both sheets.
 pub record Planned : Type 0 where
   pub mark : Mark
-  pub part : ℕ
+  pub partLength : ℕ
   pub short : Counts
   pub sparing : Counts
   pub shortSheet : List ℕ
   pub sparingSheet : List ℕ
 
--- "Planning hands back the sparing sheet exactly when both take equally many rounds, otherwise the short one" (the mission's demand 3).
-unfoldable pub markOf : Schedule → Schedule → Mark
-unfolding rounds
-markOf a b = cond (eqb (rounds a) (rounds b)) isSparing isShort
-
-abbrev pub chosen : {A : Type 0} → Mark → A → A → A
-chosen isShort a b = a
-chosen isSparing a b = b
-
+-- It is made from the schedules of P-MIN and P-CON, the short and the sparing plan.
 unfoldable pub plannedOf : Schedule → Schedule → Planned
-unfolding markOf countsOf sheetOf
-plannedOf a b = record {
-  mark = markOf a b;
-  part = chosen (markOf a b) (length (sheetOf a)) (length (sheetOf b));
-  short = countsOf a;
-  sparing = countsOf b;
-  shortSheet = sheetOf a;
-  sparingSheet = sheetOf b;
+unfolding markFor countsOf sheetOf
+plannedOf pmin pcon = record {
+  mark = markFor (rounds pmin) (rounds pcon);
+  partLength = chosen (markFor (rounds pmin) (rounds pcon)) (length (sheetOf pmin)) (length (sheetOf pcon));
+  short = countsOf pmin;
+  sparing = countsOf pcon;
+  shortSheet = sheetOf pmin;
+  sparingSheet = sheetOf pcon;
 }
 
 -- the sheet that is handed back, and its counts
@@ -78,24 +92,56 @@ abbrev pub handedCounts : Planned → Counts
 handedCounts p = chosen (p .mark) (p .short) (p .sparing)
 
 -- "17. In planning, the short sheet has more bytes than its lent buffer. 18. In planning, the sparing sheet has more bytes than its lent buffer."
+-- `room₁` and `room₂` are the lengths of the two buffers.
 unfoldable pub withRooms : ℕ → ℕ → Planned → Answer Planned
-withRooms a b p = cond (ltb a (length (p .shortSheet))) (refused 17) (cond (ltb b (length (p .sparingSheet))) (refused 18) (given p))
+withRooms room₁ room₂ p = cond (ltb room₁ (length (p .shortSheet))) (refused 17) (cond (ltb room₂ (length (p .sparingSheet))) (refused 18) (given p))
 
--- Planning: a ticket, and the lengths of the two lent buffers.
 unfoldable pub plannedFor : ℕ → ℕ → Answer Job → Answer Planned
 unfolding withRooms plannedOf scheduleOf short sparing
-plannedFor a b (given j) = withRooms a b (plannedOf (scheduleOf short j) (scheduleOf sparing j))
-plannedFor a b (refused n) = refused n
+plannedFor room₁ room₂ (given j) = withRooms room₁ room₂ (plannedOf (scheduleOf short j) (scheduleOf sparing j))
+plannedFor room₁ room₂ (refused n) = refused n
 
-unfoldable pub planning : List ℕ → ℕ → ℕ → Answer Planned
+-- A planning call: a ticket, and the lengths of the two lent buffers.
+unfoldable pub planAnswer : List ℕ → ℕ → ℕ → Answer Planned
 unfolding plannedFor ticketOf
-planning t a b = plannedFor a b (ticketOf t)
+planAnswer ticket room₁ room₂ = plannedFor room₁ room₂ (ticketOf ticket)
 
 -- A lent buffer after the call. "A refused call .. changes no lent byte." "Bytes past a written sheet do not change."
 unfoldable pub written : {A : Type 0} → (A → List ℕ) → Answer A → List ℕ → List ℕ
 unfolding over
 written sheet (given p) lent = over (sheet p) lent
 written sheet (refused n) lent = lent
+
+abbrev pub shortAfter : Answer Planned → List ℕ → List ℕ
+shortAfter a lent = written (λ p. p .shortSheet) a lent
+
+abbrev pub sparingAfter : Answer Planned → List ℕ → List ℕ
+sparingAfter a lent = written (λ p. p .sparingSheet) a lent
+
+-- What the call returns beside that. "A refused call returns its number with all counts 0 and no mark, hands out no part".
+pub record Returned : Type 0 where
+  pub number : ℕ
+  pub mark : Option Mark
+  pub partLength : ℕ
+  pub short : Counts
+  pub sparing : Counts
+
+unfoldable pub returned : Answer Planned → Returned
+returned (given p) = record { number = 0; mark = some (p .mark); partLength = p .partLength; short = p .short; sparing = p .sparing }
+returned (refused n) = record { number = n; mark = none; partLength = 0; short = noCounts; sparing = noCounts }
+
+-- "The answer is the part of one of the two lent buffers that holds the chosen sheet": the first n bytes of the buffer that is chosen by the rounds
+-- of the two plans.
+unfoldable pub partOf : ℕ → ℕ → ℕ → List ℕ → List ℕ → List ℕ
+unfolding markFor
+partOf n shortRounds sparingRounds lent₁ lent₂ = take n (chosen (markFor shortRounds sparingRounds) lent₁ lent₂)
+
+-- that part, of the two buffers as a planning call left them
+unfoldable pub partAfter : Answer Planned → List ℕ → List ℕ → List ℕ
+unfolding returned partOf written
+partAfter a lent₁ lent₂ =
+    let r = returned a in
+    partOf (r .partLength) (r .short .rounds) (r .sparing .rounds) (shortAfter a lent₁) (sparingAfter a lent₂)
 
 -- "A pass by the check gives the sheet's rounds and fetches per disk."
 unfoldable pub passOf : Answer Schedule → Answer Counts
@@ -105,13 +151,40 @@ passOf (refused n) = refused n
 
 unfoldable pub checkFor : List ℕ → Answer Job → Answer Counts
 unfolding passOf scheduleRead
-checkFor s (given j) = passOf (scheduleRead j s)
-checkFor s (refused n) = refused n
+checkFor sheet (given j) = passOf (scheduleRead j sheet)
+checkFor sheet (refused n) = refused n
 
--- The check: a ticket and a sheet. "The ticket is read first, field by field, then the sheet likewise."
-unfoldable pub checking : List ℕ → List ℕ → Answer Counts
+-- A call of the check: a ticket and a sheet. "The ticket is read first, field by field, then the sheet likewise."
+unfoldable pub checkAnswer : List ℕ → List ℕ → Answer Counts
 unfolding checkFor ticketOf
-checking t s = checkFor s (ticketOf t)
+checkAnswer ticket sheet = checkFor sheet (ticketOf ticket)
+
+-- The counts that the check returns: "A refused call returns its number with all counts 0".
+abbrev pub countsGiven : Answer Counts → Counts
+countsGiven (given c) = c
+countsGiven (refused n) = noCounts
+
+-- The numbers of "Numbers of a refused call": those of a ticket, of a sheet and of the rooms;
+abbrev pub ticketNumbers : List ℕ
+ticketNumbers = each (λ n. n) 1 8
+
+abbrev pub sheetNumbers : List ℕ
+sheetNumbers = each (λ n. n) 9 8
+
+abbrev pub roomNumbers : List ℕ
+roomNumbers = 17 ∷ 18 ∷ []
+
+-- and with which of them a check and a planning call are refused
+abbrev pub checkRefusals : List ℕ
+checkRefusals = ticketNumbers ++ sheetNumbers
+
+abbrev pub planRefusals : List ℕ
+planRefusals = ticketNumbers ++ roomNumbers
+
+-- whether a number is among those of a list
+unfoldable pub among : ℕ → List ℕ → Bool
+among n [] = false
+among n (m ∷ more) = eqb n m || among n more
 
 -- "From C a call returns its number, or 0 if it is not refused."
 abbrev pub numberOf : {A : Type 0} → Answer A → ℕ
@@ -129,7 +202,7 @@ countsNumbers c = c .rounds ∷ c .fetches
 -- "for planning the mark (0 short, 1 sparing), the length of the part, then for the short and for the sparing plan the rounds and eight fetch
 -- counts; for the check the rounds and eight fetch counts"
 abbrev pub planningNumbers : Planned → List ℕ
-planningNumbers p = chosen (p .mark) 0 1 ∷ p .part ∷ (countsNumbers (p .short) ++ countsNumbers (p .sparing))
+planningNumbers p = chosen (p .mark) 0 1 ∷ p .partLength ∷ (countsNumbers (p .short) ++ countsNumbers (p .sparing))
 
 -- The lent slice for the counts after the call: "as far as that slice reaches"; "a refusal writes nothing there".
 unfoldable pub countsWritten : {A : Type 0} → (A → List ℕ) → Answer A → List ℕ → List ℕ

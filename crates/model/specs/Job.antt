@@ -6,16 +6,19 @@ use Prim.Native.Nat.{ℕ, _≤_, _<_}
 use lib.ListN.{length, getD}
 
 pub record Job : Type 0 where
+  -- "buffer slots, one field per disk": of disk 0, disk 1, ..
   pub slots : List ℕ
-  pub disks : List ℕ
+  -- "disk of each block, in block order": of block 0, block 1, ..
+  pub blockDisks : List ℕ
+  -- "each reference, a block number", in the order in which they are read
   pub refs : List ℕ
 
--- D, B and N
+-- D, B and N: how many disks, blocks and references
 abbrev pub diskCount : Job → ℕ
 diskCount j = length (j .slots)
 
 abbrev pub blockCount : Job → ℕ
-blockCount j = length (j .disks)
+blockCount j = length (j .blockDisks)
 
 abbrev pub refCount : Job → ℕ
 refCount j = length (j .refs)
@@ -25,12 +28,12 @@ abbrev pub slotsOf : Job → ℕ → ℕ
 slotsOf j d = getD (j .slots) d 0
 
 abbrev pub diskOf : Job → ℕ → ℕ
-diskOf j b = getD (j .disks) b 0
+diskOf j b = getD (j .blockDisks) b 0
 
 abbrev pub refAt : Job → ℕ → ℕ
 refAt j i = getD (j .refs) i 0
 
--- The values that the table allows; every accepted ticket's job has them.
+-- The values that the table allows. `Promises` proves that the sound jobs are those of the accepted tickets.
 pub record Sound (j : Job) : Type 0 where
   pub someDisk : 1 ≤ diskCount j
   pub fewDisks : diskCount j ≤ 8

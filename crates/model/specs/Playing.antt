@@ -28,10 +28,11 @@ pub record State : Type 0 where
   pub next : ℕ
   pub round : ℕ
 
--- "buffers are empty at the start"
+-- "buffers are empty at the start": a mark for each block number, and none is set
 unfoldable pub noneResident : List Bool
 noneResident = replicate 512 false
 
+-- The state before round 1. It is the same for every job; request L9 will have jobs that say what is in their buffers.
 unfoldable pub start : Job → State
 start j = record { resident = noneResident; next = 0; round = 0 }
 

@@ -24,7 +24,8 @@ unfoldable pub prefer : (ℕ → ℕ → Bool) → ℕ → Option ℕ → Option
 prefer before b none = some b
 prefer before b (some c) = cond (before b c) (some b) (some c)
 
--- Of the numbers below n that pass a test the one that comes before all others.
+-- Of the numbers below n that pass a test the one that comes before all others. They are tried upwards, and each takes the place of the best so
+-- far if it comes before that one: where `before` also holds of two equal ones, the highest number of several equal ones is taken.
 unfoldable pub best : (ℕ → Bool) → (ℕ → ℕ → Bool) → ℕ → Option ℕ
 unfolding prefer
 best test before zero = none
@@ -48,7 +49,7 @@ nearestMissing j s d =
     best (λ b. missing j s d b && ltb (distanceNow j s b) (refCount j)) (λ b c. ltb (distanceNow j s b) (distanceNow j s c)) (blockCount j)
 
 -- "The min-block is the buffered block with the greatest distance; never is greatest of all, and among several of never the highest block
--- number is taken."
+-- number is taken." The order is ≤ and not <, so that of several nevers the last that is tried is taken, the highest.
 unfoldable pub minBlock : Job → State → ℕ → Option ℕ
 unfolding best distance
 minBlock j s d = best (inBuffer j s d) (λ b c. leb (distanceNow j s c) (distanceNow j s b)) (blockCount j)
@@ -56,7 +57,7 @@ minBlock j s d = best (inBuffer j s d) (λ b c. leb (distanceNow j s c) (distanc
 abbrev pub slotEmpty : Job → State → ℕ → Bool
 slotEmpty j s d = ltb (load j (s .resident) d) (slotsOf j d)
 
--- One action with the reason for it; the letters are those of request L2.
+-- One action with the reason for it. The letters are those that request L2 will print.
 pub data Choice : Type 0 where
   -- E: U is fetched into an empty slot
   intoEmpty : ℕ → Choice
@@ -79,11 +80,12 @@ action noneMissing = idle
 abbrev pub Rule : Type 0
 Rule = Job → State → ℕ → Choice
 
--- "With full slots it is idle if the min-block is referenced before U; otherwise U replaces the min-block." (No disk has 0 slots, so full
--- slots hold a min-block.)
+-- "With full slots it is idle if the min-block is referenced before U; otherwise U replaces the min-block." The min-block has the greatest distance,
+-- so the reason S says that every buffered block is referenced before U. No disk of a sound job has 0 slots, so full slots hold a min-block; where
+-- they held none, S would be true of no blocks.
 unfoldable pub shortFull : Job → State → ℕ → Option ℕ → Choice
 unfolding distance
-shortFull j s u none = noneMissing
+shortFull j s u none = minBlockSooner
 shortFull j s u (some v) = cond (ltb (distanceNow j s v) (distanceNow j s u)) minBlockSooner (overMinBlock u v)
 
 -- "If there is no U, the disk is idle. If a slot is empty, both plans fetch U and discard nothing."
@@ -104,6 +106,8 @@ someLater j s d u v =
     let from = distanceNow j s u in
     ltb 0 (count (λ b. inBuffer j s d b && ltb (distance (j .refs) from v) (distance (j .refs) from b)) (blockCount j))
 
+-- What the sparing rule makes of the short rule's choice: where U would replace the min-block, it waits "if, counted from the position of U's
+-- reference on, some buffered block has a later distance than the min-block"; every other choice stays.
 unfoldable pub unlessLater : Job → State → ℕ → Choice → Choice
 unfolding someLater
 unlessLater j s d (intoEmpty u) = intoEmpty u

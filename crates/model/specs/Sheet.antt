@@ -17,6 +17,7 @@ actionBits idle = 0 ∷ []
 actionBits (fetch x) = 1 ∷ (digits 9 x ++ 0 ∷ [])
 actionBits (replace x z) = 1 ∷ (digits 9 x ++ 1 ∷ digits 9 z)
 
+-- "for each round and each disk in order one action"
 unfoldable pub roundBits : List Action → List ℕ
 unfolding actionBits
 roundBits [] = []
@@ -37,6 +38,10 @@ unfoldable pub sheetOf : Schedule → List ℕ
 unfolding sheetBits pack
 sheetOf schedule = pack (sheetBits schedule)
 
+-- A field of w bits. "9. The sheet ends inside a field that is due."
+abbrev pub sheetField : ℕ → Reader ℕ
+sheetField w = field 9 w
+
 -- block b is in the buffer of disk d
 abbrev pub holds : Job → List Bool → ℕ → ℕ → Bool
 holds j marks d b = ltb b (blockCount j) && eqb (diskOf j b) d && isResident marks b
@@ -48,7 +53,7 @@ discardReader j marks d x zero = do
   refuseIf 13 (leb (slotsOf j d) (load j marks d))
   give (fetch x)
 discardReader j marks d x (suc k) = do
-  z ← field 9 9
+  z ← sheetField 9
   refuseIf 14 (not (holds j marks d z))
   give (replace x z)
 
@@ -56,16 +61,16 @@ discardReader j marks d x (suc k) = do
 unfoldable pub fetchReader : Job → List Bool → ℕ → ℕ → Reader Action
 fetchReader j marks d zero = give idle
 fetchReader j marks d (suc k) = do
-  x ← field 9 9
+  x ← sheetField 9
   refuseIf 11 (leb (blockCount j) x || not (eqb (diskOf j x) d))
   refuseIf 12 (isResident marks x)
-  discards ← field 9 1
+  discards ← sheetField 1
   discardReader j marks d x discards
 
--- One action of disk d. 9, "the sheet ends inside a field that is due", is the number of every field.
+-- One action of disk d.
 unfoldable pub actionReader : Job → List Bool → ℕ → Reader Action
 actionReader j marks d = do
-  fetches ← field 9 1
+  fetches ← sheetField 1
   fetchReader j marks d fetches
 
 -- The actions of k disks, from disk d on; each is played before the next is read.
@@ -76,6 +81,7 @@ roundReader j (suc k) marks d = do
   more ← roundReader j k (act marks a) (suc d)
   give (a ∷ more)
 
+-- The rounds that are left, r of them, from the state s on; each is played before the next is read.
 unfoldable pub roundsReader : Job → ℕ → State → Reader Schedule
 roundsReader j zero s = give []
 roundsReader j (suc r) s = do
@@ -86,7 +92,7 @@ roundsReader j (suc r) s = do
 -- The sheet for a job from a state: R, "10. R is above 2048", the rounds, "15. References are left after the last round", the closing bits.
 unfoldable pub sheetReader : Job → State → Reader Schedule
 sheetReader j s = do
-  r ← field 9 12
+  r ← sheetField 12
   refuseIf 10 (ltb 2048 r)
   schedule ← roundsReader j r s
   refuseIf 15 (ltb (play j s schedule .next) (refCount j))

@@ -1,14 +1,16 @@
--- Valid schedules, said without bits and without an order of tests. Document 01, "Playing a round": "A sheet is valid if no action is refused
--- below and all N references are consumed by its last round (axioms A1 and A2 of document 000)." `Promises` proves that these are the sheets
--- that the check passes. Assumes nothing.
+-- Valid tickets and sheets, said without a reader and without an order of tests: which jobs and schedules are allowed, and then how they are
+-- written. Document 01, "Playing a round": "A sheet is valid if no action is refused below and all N references are consumed by its last round
+-- (axioms A1 and A2 of document 000)." `Promises` proves that these are the tickets that are accepted and the sheets that the check passes.
+-- Assumes nothing.
 use mathlib.Core.Path.{_≡_}
 use mathlib.Core.Bool.{Bool, true, false}
 use mathlib.Core.List.{List, [], _∷_, _++_}
 use Prim.Native.Nat.{ℕ, suc, _≤_, _<_}
 use lib.ListN.{length, replicate}
 use Rattle.bits.specs.Bits.{bits}
-use Rattle.model.specs.Job.{Job, diskCount, blockCount, refCount, slotsOf, diskOf, refAt}
+use Rattle.model.specs.Job.{Job, Sound, diskCount, blockCount, refCount, slotsOf, diskOf, refAt}
 use Rattle.model.specs.Playing.{Action, idle, fetch, replace, Schedule, State, start, isResident, load, act, actAll}
+use Rattle.model.specs.Ticket.{ticketBits}
 use Rattle.model.specs.Sheet.{sheetBits}
 
 -- Block b lies on disk d, and is in its buffer or not.
@@ -55,6 +57,13 @@ pub record Ready (j : Job) (s : State) : Type 0 where
 unfoldable pub ValidFrom : Job → State → Schedule → Type 0
 ValidFrom j s [] = s .next ≡ refCount j
 ValidFrom j s (actions ∷ more) = (t : State) × Round j s actions t × ValidFrom j t more
+
+-- A ticket of a job: a sound job's fields in order, then fewer than eight zero bits and no byte after.
+pub record ValidTicket (ticket : List ℕ) (j : Job) : Type 0 where
+  pub sound : Sound j
+  pub closingBits : ℕ
+  pub fewClosing : closingBits < 8
+  pub written : bits ticket ≡ ticketBits j ++ replicate closingBits 0
 
 -- A sheet of a job: at most 2,048 rounds of a valid schedule, written as bits, then fewer than eight zero bits and no byte after.
 pub record ValidSheet (j : Job) (sheet : List ℕ) (schedule : Schedule) : Type 0 where

@@ -1,150 +1,129 @@
 -- What the C calls return and write. Assumes nothing.
 use mathlib.Core.Path.{_≡_, refl, sym, ap, _∙_}
-use mathlib.Core.List.{List, [], _∷_, _++_}
-use Prim.Native.Nat.{ℕ, _≤_}
+use mathlib.Core.List.{List, _∷_}
+use mathlib.Core.Option.{some}
+use Prim.Native.Nat.{ℕ}
 use native.Mathlib.Omega.{arith}
-use lib.Dec.{ltb, eqb}
-use lib.ListN.{length, getD}
+use lib.ListN.{getD}
 use mir.Val.{Fits as Machine}
 use mir.Syntax.{w32}
-use borrow.Author.Tests.{eqb-true, eqb-false}
-use Rattle.bits.specs.Bits.{laid}
+use Rattle.bits.specs.Bits.{be16}
+use Rattle.bits.specs.Fields.{laidAt}
 use Rattle.bits.specs.Reading.{Answer, given, refused}
-use Rattle.bits.proofs.Logic.{by-test, some-number}
-use Rattle.bits.proofs.Reading.{refused-given}
 use Rattle.model.specs.Playing.{Schedule}
 use Rattle.model.specs.Plans.{each}
-use Rattle.model.specs.Calls.{Counts, countsOf, isShort, isSparing, chosen, checking, planning, withRooms, plannedOf, numberOf, halves, countsNumbers, planningNumbers, countsWritten}
-use Rattle.model.specs.Calls.{Planned as Answered}
-use Rattle.model.specs.Calls.{Mark as Chosen}
+use Rattle.model.specs.Calls.{Counts, countsOf, isShort, isSparing, chosen, checkAnswer, planAnswer, plannedOf, returned, numberOf, halves, countsNumbers, planningNumbers, countsWritten}
+use Rattle.model.specs.Calls.{Planned as PlanGiven}
+use Rattle.model.specs.Calls.{Mark as MarkGiven}
+use Rattle.model.proofs.Numbers.{check-within, plan-within}
 use Rattle.model.proofs.Bytes
-use Rattle.ticket.specs.Meaning.{ticketRead}
-use Rattle.ticket.proofs.Laws.{read-number}
 use Rattle.checking.specs.Checking.{checkedOf}
 use Rattle.checking.specs.declared.Checked.{Checked}
-use Rattle.planner.specs.Planner.{Unbeaten, markAs, plannedAs, markNumber, nineOf}
+use Rattle.planner.specs.Planner.{markAs, plannedAs, markNumber}
 use Rattle.planner.specs.declared.Planned.{Planned}
-use Rattle.planner.proofs.Laws.{check-number, passing, unbeaten-check}
-use Rattle.planner.proofs.Rooms.{ticket-refused, with-rooms}
+use Rattle.planner.proofs.Laying.{laid-twenty}
 
--- the numbers of a schedule's counts
-nine-counts : (schedule : Schedule) → nineOf (countsOf schedule .rounds) (countsOf schedule .fetches) ≡ countsNumbers (countsOf schedule)
+-- the numbers that the code writes for a schedule's counts
+abbrev numbersOf : ℕ → List ℕ → List ℕ
+numbersOf rounds fetches = rounds ∷ each (λ d. getD fetches d 0) 0 8
+
+same-numbers : (schedule : Schedule) → numbersOf (countsOf schedule .rounds) (countsOf schedule .fetches) ≡ countsNumbers (countsOf schedule)
 unfolding countsOf each
-nine-counts schedule = refl
+same-numbers schedule = refl
 
 -- The check.
 
-checked-number : (a : Answer Counts) → checkedOf a .number ≡ numberOf a
-unfolding checkedOf
-checked-number (given c) = refl
-checked-number (refused n) = refl
-
-abbrev CheckTold : List ℕ → List ℕ → ℕ → List ℕ → List ℕ → Type 0
-CheckTold t s n lent lent′ = (n ≡ numberOf (checking t s)) × ((lent′ ≡ countsWritten countsNumbers (checking t s) lent) × Unbeaten t (checkedOf (checking t s)))
-
-module _ (t s : List ℕ) (r : Checked) (e : r ≡ checkedOf (checking t s)) where
-  number-is : r .number ≡ numberOf (checking t s)
-  number-is = ap (λ (x : Checked). x .number) e ∙ checked-number (checking t s)
+module _ (t s : List ℕ) (r : Checked) (e : r ≡ checkedOf (checkAnswer t s)) where
+  check-is : r .number ≡ numberOf (checkAnswer t s)
+  unfolding checkedOf
+  check-is = ap (λ (x : Checked). x .number) e ∙ go (checkAnswer t s)
+    where
+      go : (a : Answer Counts) → checkedOf a .number ≡ numberOf a
+      go (given c) = refl
+      go (refused n) = refl
 
   pub check-small : Machine w32 (r .number)
-  check-small = go (checking t s) refl number-is
+  check-small = go (checkAnswer t s) refl check-is
     where
-      go : (a : Answer Counts) → checking t s ≡ a → r .number ≡ numberOf a → Machine w32 (r .number)
+      go : (a : Answer Counts) → checkAnswer t s ≡ a → r .number ≡ numberOf a → Machine w32 (r .number)
       go (given c) q h = omega (arith, h)
-      go (refused n) q h = let b = check-number t s n q .1 in omega (arith, b, h)
+      go (refused n) q h = let b = check-within t s n q .1 in omega (arith, b, h)
 
-  pub check-stopped : (lent : List ℕ) → (r .number ≡ 0 → ⊥) → CheckTold t s (r .number) lent lent
+  pub check-stopped : (lent : List ℕ) → (r .number ≡ 0 → ⊥) → (r .number ≡ numberOf (checkAnswer t s)) × (lent ≡ countsWritten countsNumbers (checkAnswer t s) lent)
   unfolding countsWritten
-  check-stopped lent f = (number-is, (go (checking t s) number-is, unbeaten-check t s))
+  check-stopped lent f = (check-is, go (checkAnswer t s) check-is)
     where
       go : (a : Answer Counts) → r .number ≡ numberOf a → lent ≡ countsWritten countsNumbers a lent
       go (given c) h = absurd (f h)
       go (refused n) h = refl
 
-  pub check-passed : (lent lent′ numbers : List ℕ) → r .number ≡ 0 → numbers ≡ nineOf (r .rounds) (r .fetches) → lent′ ≡ laid (halves numbers) lent → CheckTold t s 0 lent lent′
-  unfolding countsWritten checkedOf
-  check-passed lent lent′ numbers z m w =
-      let p = passing t s (ap (λ (x : Checked). x .number) (sym e) ∙ z) in
-      let v = Bytes.passes-valid t s (p .0) (p .1) in
-      let same : numbers ≡ countsNumbers (p .0) =
-      m ∙ ap (λ (x : Checked). nineOf (x .rounds) (x .fetches)) (e ∙ ap checkedOf (p .1 ∙ ap given (sym (v .4)))) ∙ nine-counts (v .1) ∙ ap countsNumbers (v .4) in
-      (sym z ∙ number-is, (w ∙ ap (λ (x : List ℕ). laid (halves x) lent) same ∙ ap (λ (a : Answer Counts). countsWritten countsNumbers a lent) (sym (p .1)), unbeaten-check t s))
+  pub check-passed : (lent lent′ : List ℕ) → r .number ≡ 0 → lent′ ≡ laidAt 0 (halves (numbersOf (r .rounds) (r .fetches))) lent
+      → (0 ≡ numberOf (checkAnswer t s)) × (lent′ ≡ countsWritten countsNumbers (checkAnswer t s) lent)
+  unfolding countsWritten checkedOf laidAt
+  check-passed lent lent′ z w = (sym z ∙ check-is, w ∙ go (checkAnswer t s) refl)
+    where
+      go : (a : Answer Counts) → checkAnswer t s ≡ a → laidAt 0 (halves (numbersOf (r .rounds) (r .fetches))) lent ≡ countsWritten countsNumbers a lent
+      go (given c) q =
+          let v = Bytes.passes-valid t s c q in
+          let same = e ∙ ap checkedOf (q ∙ ap given (sym (v .4))) in
+          ap (λ (l : List ℕ). laidAt 0 (halves l) lent) (ap (λ (x : Checked). numbersOf (x .rounds) (x .fetches)) same ∙ same-numbers (v .1) ∙ ap countsNumbers (v .4))
+      go (refused n) q = let b = check-within t s n q .0 in let h : r .number ≡ n = check-is ∙ ap numberOf q in absurd (omega (arith, b, h, z))
 
 -- Planning.
 
-mark-is : (m : Chosen) → markNumber (markAs m) ≡ chosen m 0 1
+mark-is : (m : MarkGiven) → markNumber (markAs (some m)) ≡ chosen m 0 1
 mark-is isShort = refl
 mark-is isSparing = refl
 
-planned-number : (a : Answer Answered) → plannedAs a .number ≡ numberOf a
-unfolding plannedAs
-planned-number (given p) = refl
-planned-number (refused n) = refl
+-- what the code writes for a value, one number or one plan after the other
+abbrev twentyLaid : ℕ → Planned → List ℕ → List ℕ
+twentyLaid m r lent =
+    laidAt 22 (halves (numbersOf (r .sparing .rounds) (r .sparing .fetches)))
+    (laidAt 4 (halves (numbersOf (r .short .rounds) (r .short .fetches))) (laidAt 2 (be16 (r .length)) (laidAt 0 (be16 m) lent)))
 
--- the number of a planning call that is refused
-pub plan-number : (t : List ℕ) (a b n : ℕ) → planning t a b ≡ refused n → (1 ≤ n) × (n ≤ 18)
-unfolding withRooms
-plan-number t a b n e =
-    by-test (eqb (ticketRead t .number) 0)
-    (λ y. let w = with-rooms t (ticketRead t) refl (eqb-true _ _ y) a b in rooms (w .0) (sym (w .1) ∙ e))
-    (λ m. let f = eqb-false _ _ m in
-    let same : ticketRead t .number ≡ n = refused-same (sym (ticket-refused t (ticketRead t) refl a b f) ∙ e) in
-    let few = read-number t in
-    (by-test (eqb n 0) (λ y. absurd (f (same ∙ eqb-true n 0 y))) (λ k. some-number n (eqb-false n 0 k)), omega (arith, same, few)))
-  where
-    refused-same : {x y : ℕ} → _≡_ {A = Answer Answered} (refused x) (refused y) → x ≡ y
-    refused-same p = cc
+twenty-planned : (a b : Schedule) (lent : List ℕ)
+    → (let r = plannedAs (returned (given (plannedOf a b))) in twentyLaid (markNumber (r .mark)) r lent) ≡ laidAt 0 (halves (planningNumbers (plannedOf a b))) lent
+unfolding plannedAs returned plannedOf countsOf each
+twenty-planned a b lent =
+    let p = plannedOf a b in
+    ap (λ (m : ℕ). laidAt 22 (halves (countsNumbers (countsOf b))) (laidAt 4 (halves (countsNumbers (countsOf a))) (laidAt 2 (be16 (p .partLength)) (laidAt 0 (be16 m) lent)))) (mark-is (p .mark))
+    ∙ laid-twenty (chosen (p .mark) 0 1) (p .partLength) (countsNumbers (countsOf a)) (countsNumbers (countsOf b)) lent refl
 
-    rooms : (p : Answered) → withRooms a b p ≡ refused n → (1 ≤ n) × (n ≤ 18)
-    rooms p h =
-        by-test (ltb a (length (p .shortSheet)))
-        (λ y. let same = refused-same (rw y at h) in (omega (arith, same), omega (arith, same)))
-        (λ m. let k = rw m at h in
-        by-test (ltb b (length (p .sparingSheet)))
-        (λ y. let same = refused-same (rw y at k) in (omega (arith, same), omega (arith, same)))
-        (λ l. let g : given p ≡ refused n = rw l at k in refused-given (sym g)))
-
--- the numbers that the code writes
-abbrev twentyOf : ℕ → ℕ → List ℕ → List ℕ → List ℕ
-twentyOf m n x y = m ∷ n ∷ getD x 0 0 ∷ getD x 1 0 ∷ getD x 2 0 ∷ getD x 3 0 ∷ getD x 4 0 ∷ getD x 5 0 ∷ getD x 6 0 ∷ getD x 7 0 ∷ getD x 8 0
-    ∷ getD y 0 0 ∷ getD y 1 0 ∷ getD y 2 0 ∷ getD y 3 0 ∷ getD y 4 0 ∷ getD y 5 0 ∷ getD y 6 0 ∷ getD y 7 0 ∷ getD y 8 0 ∷ []
-
-twenty-planned : (a b : Schedule)
-    → (let r = plannedAs (given (plannedOf a b)) in twentyOf (markNumber (r .mark)) (r .part) (nineOf (r .short .rounds) (r .short .fetches)) (nineOf (r .sparing .rounds) (r .sparing .fetches)))
-    ≡ planningNumbers (plannedOf a b)
-unfolding plannedAs plannedOf countsOf each
-twenty-planned a b = ap (λ (m : ℕ). m ∷ plannedOf a b .part ∷ (countsNumbers (countsOf a) ++ countsNumbers (countsOf b))) (mark-is (plannedOf a b .mark))
-
-module _ (t : List ℕ) (a b : ℕ) (r : Planned) (e : r ≡ plannedAs (planning t a b)) where
-  plan-is : r .number ≡ numberOf (planning t a b)
-  plan-is = ap (λ (x : Planned). x .number) e ∙ planned-number (planning t a b)
+module _ (t : List ℕ) (a b : ℕ) (r : Planned) (e : r ≡ plannedAs (returned (planAnswer t a b))) where
+  plan-is : r .number ≡ numberOf (planAnswer t a b)
+  unfolding plannedAs returned
+  plan-is = ap (λ (x : Planned). x .number) e ∙ go (planAnswer t a b)
+    where
+      go : (x : Answer PlanGiven) → plannedAs (returned x) .number ≡ numberOf x
+      go (given p) = refl
+      go (refused n) = refl
 
   pub plan-small : Machine w32 (r .number)
-  plan-small = go (planning t a b) refl plan-is
+  plan-small = go (planAnswer t a b) refl plan-is
     where
-      go : (x : Answer Answered) → planning t a b ≡ x → r .number ≡ numberOf x → Machine w32 (r .number)
+      go : (x : Answer PlanGiven) → planAnswer t a b ≡ x → r .number ≡ numberOf x → Machine w32 (r .number)
       go (given c) q h = omega (arith, h)
-      go (refused n) q h = let k = plan-number t a b n q .1 in omega (arith, k, h)
+      go (refused n) q h = let k = plan-within t a b n q .1 in omega (arith, k, h)
 
-  pub plan-stopped : (lent : List ℕ) → (r .number ≡ 0 → ⊥) → (r .number ≡ numberOf (planning t a b)) × (lent ≡ countsWritten planningNumbers (planning t a b) lent)
+  pub plan-stopped : (lent : List ℕ) → (r .number ≡ 0 → ⊥) → (r .number ≡ numberOf (planAnswer t a b)) × (lent ≡ countsWritten planningNumbers (planAnswer t a b) lent)
   unfolding countsWritten
-  plan-stopped lent f = (plan-is, go (planning t a b) plan-is)
+  plan-stopped lent f = (plan-is, go (planAnswer t a b) plan-is)
     where
-      go : (x : Answer Answered) → r .number ≡ numberOf x → lent ≡ countsWritten planningNumbers x lent
+      go : (x : Answer PlanGiven) → r .number ≡ numberOf x → lent ≡ countsWritten planningNumbers x lent
       go (given c) h = absurd (f h)
       go (refused n) h = refl
 
-  pub plan-passed : (lent lent′ x y : List ℕ) (m : ℕ) → r .number ≡ 0 → m ≡ markNumber (r .mark) → x ≡ nineOf (r .short .rounds) (r .short .fetches)
-      → y ≡ nineOf (r .sparing .rounds) (r .sparing .fetches) → lent′ ≡ laid (halves (twentyOf m (r .part) x y)) lent
-      → (0 ≡ numberOf (planning t a b)) × (lent′ ≡ countsWritten planningNumbers (planning t a b) lent)
-  unfolding countsWritten
-  plan-passed lent lent′ x y m z k f g w = (sym z ∙ plan-is, w ∙ go (planning t a b) refl)
+  pub plan-passed : (lent l₁ l₂ l₃ l₄ : List ℕ) (m : ℕ) → r .number ≡ 0 → m ≡ markNumber (r .mark) → l₁ ≡ laidAt 0 (be16 m) lent → l₂ ≡ laidAt 2 (be16 (r .length)) l₁
+      → l₃ ≡ laidAt 4 (halves (numbersOf (r .short .rounds) (r .short .fetches))) l₂ → l₄ ≡ laidAt 22 (halves (numbersOf (r .sparing .rounds) (r .sparing .fetches))) l₃
+      → (0 ≡ numberOf (planAnswer t a b)) × (l₄ ≡ countsWritten planningNumbers (planAnswer t a b) lent)
+  unfolding countsWritten laidAt
+  plan-passed lent l₁ l₂ l₃ l₄ m z k f g h w = (sym z ∙ plan-is, rw (w, h, g, f, k) (go (planAnswer t a b) refl))
     where
-      go : (u : Answer Answered) → planning t a b ≡ u → laid (halves (twentyOf m (r .part) x y)) lent ≡ countsWritten planningNumbers u lent
+      go : (u : Answer PlanGiven) → planAnswer t a b ≡ u → twentyLaid (markNumber (r .mark)) r lent ≡ countsWritten planningNumbers u lent
       go (given p) q =
           let w = Bytes.planned t a b p q in
-          let h = e ∙ ap plannedAs (q ∙ ap given (sym (w .2))) in
-          ap (λ (l : List ℕ). laid (halves l) lent) ((λ i. twentyOf (k i) (r .part) (f i) (g i))
-          ∙ ap (λ (v : Planned). twentyOf (markNumber (v .mark)) (v .part) (nineOf (v .short .rounds) (v .short .fetches)) (nineOf (v .sparing .rounds) (v .sparing .fetches))) h
-          ∙ twenty-planned _ _ ∙ ap planningNumbers (w .2))
-      go (refused n) q = let l = plan-number t a b n q .0 in let h : r .number ≡ n = plan-is ∙ ap numberOf q in absurd (omega (arith, l, h, z))
+          let h = e ∙ ap (λ (x : Answer PlanGiven). plannedAs (returned x)) (q ∙ ap given (sym (w .2))) in
+          ap (λ (v : Planned). twentyLaid (markNumber (v .mark)) v lent) h
+          ∙ twenty-planned _ _ lent
+          ∙ ap (λ (x : PlanGiven). laidAt 0 (halves (planningNumbers x)) lent) (w .2)
+      go (refused n) q = let l = plan-within t a b n q .0 in let h : r .number ≡ n = plan-is ∙ ap numberOf q in absurd (omega (arith, l, h, z))

@@ -1,84 +1,78 @@
--- A ticket that is read, and what planning and the check then give. Assumes nothing.
+-- A ticket that is read, and what the check then gives. Assumes nothing.
 use mathlib.Core.Path.{_≡_, refl, sym, ap, _∙_, subst}
 use mathlib.Core.List.{List}
-use Prim.Native.Nat.{ℕ, _≤_}
+use Prim.Native.Nat.{ℕ}
 use native.Mathlib.Omega.{arith}
-use lib.Dec.{eqb}
 use lib.ListN.{replicate}
 use Rattle.bits.specs.Reading.{Answer, given, refused}
-use borrow.Author.Tests.{eqb-true, eqb-false}
-use Rattle.bits.proofs.Logic.{by-test, some-number}
-use Rattle.bits.proofs.Reading.{refused-given}
 use Rattle.job.specs.Meaning.{jobOf, Fits}
+use Rattle.model.specs.Job.{Job}
+use Rattle.model.specs.Ticket.{ticketOf}
 use Rattle.model.specs.Playing.{Schedule}
 use Rattle.model.specs.Sheet.{scheduleRead}
-use Rattle.model.specs.Calls.{Counts, checking, checkFor, passOf}
-use Rattle.model.proofs.Promises.{unbeaten}
+use Rattle.model.specs.Valid.{ValidSheet}
+use Rattle.model.specs.Calls.{Counts, countsOf, checkAnswer, checkFor, passOf}
+use Rattle.model.proofs.Numbers.{check-within}
+use Rattle.model.proofs.Promises.{passes-exactly, unbeaten}
 use Rattle.ticket.specs.Meaning.{ticketRead}
 use Rattle.ticket.specs.declared.Ticket.{Ticket}
-use Rattle.ticket.proofs.Laws.{read-given, read-refused, read-fits, read-number}
-use Rattle.model.proofs.Numbers.{sheet-number}
+use Rattle.ticket.proofs.Laws.{read-given, read-refused, read-fits}
 use Rattle.checking.specs.Checking.{checkedOf}
 use Rattle.checking.specs.declared.Checked.{Checked}
-use Rattle.planner.specs.Planner.{Unbeaten}
+use Rattle.planner.specs.Planner.{Unbeaten, Exact}
 
--- the check of a ticket that is refused, and of one that is not
-pub checking-refused : (t s : List ℕ) → (ticketRead t .number ≡ 0 → ⊥) → checking t s ≡ refused (ticketRead t .number)
-unfolding checking checkFor
-checking-refused t s z = ap (checkFor s) (read-refused t z)
-
-pub checking-given : (t s : List ℕ) → ticketRead t .number ≡ 0 → checking t s ≡ passOf (scheduleRead (jobOf (ticketRead t .job)) s)
-unfolding checking checkFor
-checking-given t s z = ap (checkFor s) (read-given t z)
-
--- the number of a check that is refused
-pub check-number : (t s : List ℕ) (n : ℕ) → checking t s ≡ refused n → (1 ≤ n) × (n ≤ 16)
-unfolding checking checkFor passOf
-check-number t s n e =
-    by-test (eqb (ticketRead t .number) 0)
-    (λ y. from (scheduleRead (jobOf (ticketRead t .job)) s) refl (sym (checking-given t s (eqb-true _ _ y)) ∙ e))
-    (λ m. let f = eqb-false _ _ m in
-    let same : ticketRead t .number ≡ n = refused-same (sym (checking-refused t s f) ∙ e) in
-    let few = read-number t in
-    (by-test (eqb n 0) (λ y. absurd (f (same ∙ eqb-true n 0 y))) (λ k. let g = eqb-false n 0 k in some-number n g), omega (arith, same, few)))
-  where
-    refused-same : {a b : ℕ} → _≡_ {A = Answer Counts} (refused a) (refused b) → a ≡ b
-    refused-same p = cc
-
-    from : (a : Answer Schedule) → scheduleRead (jobOf (ticketRead t .job)) s ≡ a → passOf a ≡ refused n → (1 ≤ n) × (n ≤ 16)
-    from (given x) q h = refused-given (sym h)
-    from (refused m) q h = let same = refused-same h in let b = sheet-number _ s m q in let b0 = b .0 in let b1 = b .1 in (omega (arith, same, b0), omega (arith, same, b1))
-
--- a passing check's number is 0, and a refusal's is not
-pub passing : (t s : List ℕ) → checkedOf (checking t s) .number ≡ 0 → (c : Counts) × (checking t s ≡ given c)
+-- Demands 2 and 3 hold of what the check gives.
+passing : (t s : List ℕ) → checkedOf (checkAnswer t s) .number ≡ 0 → (c : Counts) × (checkAnswer t s ≡ given c)
 unfolding checkedOf
-passing t s z = go (checking t s) refl z
+passing t s z = go (checkAnswer t s) refl z
   where
-    go : (a : Answer Counts) → checking t s ≡ a → checkedOf a .number ≡ 0 → (c : Counts) × (checking t s ≡ given c)
+    go : (a : Answer Counts) → checkAnswer t s ≡ a → checkedOf a .number ≡ 0 → (c : Counts) × (checkAnswer t s ≡ given c)
     go (given c) q h = (c, q)
-    go (refused n) q h = let b = check-number t s n q .0 in absurd (omega (arith, b, h))
+    go (refused n) q h = let b = check-within t s n q .0 in absurd (omega (arith, b, h))
 
-pub unbeaten-check : (t s : List ℕ) → Unbeaten t (checkedOf (checking t s))
-unfolding Unbeaten checkedOf
-unbeaten-check t s z j e =
-    let p = passing t s z in
-    rw (p .1) (unbeaten t s j (p .0) e (p .1))
+check-valid : (t s : List ℕ) (j : Job) (schedule : Schedule) → ticketOf t ≡ given j → ValidSheet j s schedule → checkedOf (checkAnswer t s) ≡ checkedOf (given (countsOf schedule))
+check-valid t s j schedule e v = ap checkedOf (passes-exactly t s (countsOf schedule) .1 (j, schedule, e, v, refl))
+
+pub check-promised : (t s : List ℕ) → Exact t s (checkedOf (checkAnswer t s)) × Unbeaten t (checkedOf (checkAnswer t s))
+unfolding Exact Unbeaten checkedOf
+check-promised t s = (
+  (
+    (
+      λ z. (let p = passing t s z in let w = passes-exactly t s (p .0) .0 (p .1) in (w .0, w .1, w .2, w .3)),
+      λ w. ap (λ (x : Checked). x .number) (check-valid t s (w .0) (w .1) (w .2) (w .3)),
+    ),
+    check-valid t s,
+  ),
+  λ z j e. (let p = passing t s z in rw (p .1) (unbeaten t s j (p .0) e (p .1))),
+)
+
+-- what is said of a value that is the answer's
+pub check-returned : (t s : List ℕ) (r : Checked) → r ≡ checkedOf (checkAnswer t s) → (r ≡ checkedOf (checkAnswer t s)) × Exact t s r × Unbeaten t r
+check-returned t s r e = (e, subst (Exact t s) (sym e) (check-promised t s .0), subst (Unbeaten t) (sym e) (check-promised t s .1))
 
 module _ (t : List ℕ) (read : Ticket) (e : read ≡ ticketRead t) where
-  pub check-fits : read .number ≡ 0 → Fits (read .job)
-  check-fits z = subst (λ (x : Ticket). Fits (x .job)) (sym e) (read-fits t (ap (λ (x : Ticket). x .number) (sym e) ∙ z))
+  number-is : ticketRead t .number ≡ read .number
+  number-is = ap (λ (x : Ticket). x .number) (sym e)
 
+  -- a ticket that is refused,
+  pub ticket-refused : (read .number ≡ 0 → ⊥) → ticketOf t ≡ refused (read .number)
+  ticket-refused f = read-refused t (λ z. f (sym number-is ∙ z)) ∙ ap refused number-is
+
+  module _ (z : read .number ≡ 0) where
+    -- and one that is not
+    pub ticket-given : ticketOf t ≡ given (jobOf (read .job))
+    ticket-given = read-given t (number-is ∙ z) ∙ ap (λ (x : Ticket). given (jobOf (x .job))) (sym e)
+
+    pub ticket-fits : Fits (read .job)
+    ticket-fits = subst (λ (x : Ticket). Fits (x .job)) (sym e) (read-fits t (number-is ∙ z))
+
+  -- what the check gives for it
   pub check-refused : (s : List ℕ) → (read .number ≡ 0 → ⊥)
-      → (record { number = read .number; rounds = 0; fetches = replicate 8 0 } ≡ checkedOf (checking t s)) × Unbeaten t (record { number = read .number; rounds = 0; fetches = replicate 8 0 })
-  unfolding checkedOf Unbeaten
-  check-refused s f =
-      let n = ap (λ (x : Ticket). x .number) e in
-      let q = checking-refused t s (λ z. f (n ∙ z)) in
-      (sym (ap checkedOf q ∙ ap (λ (m : ℕ). checkedOf (refused m)) (sym n)), λ z. absurd (f z))
+      → (let r : Checked = record { number = read .number; rounds = 0; fetches = replicate 8 0 } in (r ≡ checkedOf (checkAnswer t s)) × Exact t s r × Unbeaten t r)
+  unfolding checkedOf checkAnswer checkFor
+  check-refused s f = check-returned t s _ (sym (ap (λ x. checkedOf (checkFor s x)) (ticket-refused f)))
 
   pub check-given : (s : List ℕ) (r : Checked) → read .number ≡ 0 → r ≡ checkedOf (passOf (scheduleRead (jobOf (read .job)) s))
-      → (r ≡ checkedOf (checking t s)) × Unbeaten t r
-  check-given s r z q =
-      let p = checking-given t s (ap (λ (x : Ticket). x .number) (sym e) ∙ z) in
-      let h = q ∙ ap (λ (x : Ticket). checkedOf (passOf (scheduleRead (jobOf (x .job)) s))) e ∙ sym (ap checkedOf p) in
-      (h, subst (Unbeaten t) (sym h) (unbeaten-check t s))
+      → (r ≡ checkedOf (checkAnswer t s)) × Exact t s r × Unbeaten t r
+  unfolding checkAnswer checkFor
+  check-given s r z q = check-returned t s r (q ∙ sym (ap (λ x. checkedOf (checkFor s x)) (ticket-given z)))

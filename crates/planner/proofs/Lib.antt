@@ -1,4 +1,5 @@
+pub mod Joined
 pub mod Laws
-pub mod Rooms
-pub mod Laying
-pub mod Exports
+mod Rooms
+mod Laying
+mod Exports

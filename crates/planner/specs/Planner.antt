@@ -1,57 +1,62 @@
 -- What the public calls give, as values of the code, and the promises that their contracts carry. Assumes nothing.
 use mathlib.Core.Path.{_≡_}
 use mathlib.Core.Logic.{_↔_}
-use mathlib.Core.Bool.{Bool, true, false, cond}
-use mathlib.Core.List.{List, [], _∷_}
+use mathlib.Core.Bool.{cond}
+use mathlib.Core.List.{List}
+use mathlib.Core.Option.{Option, none, some}
 use Prim.Native.Nat.{ℕ, _≤_}
-use lib.Dec.{eqb}
-use lib.ListN.{getD, replicate, take}
+use lib.Dec.{ltb}
+use lib.ListN.{length, getD}
 use Rattle.bits.specs.Reading.{Answer, given, refused}
 use Rattle.model.specs.Job.{Job}
 use Rattle.model.specs.Ticket.{ticketOf}
-use Rattle.model.specs.Calls.{fetchesOn, shortCounts, sparingCounts, isShort, isSparing, handedCounts, checking}
-use Rattle.model.specs.Calls.{Planned as Answered}
-use Rattle.model.specs.Calls.{Mark as Chosen}
-use Rattle.model.specs.Calls.{Counts as Given}
+use Rattle.model.specs.Playing.{Schedule}
+use Rattle.model.specs.Valid.{ValidSheet}
+use Rattle.model.specs.Calls.{countsOf, fetchesOn, shortCounts, sparingCounts, isShort, isSparing, markFor, chosen, handedCounts, Returned, planAnswer, checkAnswer}
+use Rattle.model.specs.Calls.{Planned as PlanGiven}
+use Rattle.model.specs.Calls.{Mark as MarkGiven}
+use Rattle.model.specs.Calls.{Counts as CountsGiven}
+use Rattle.checking.specs.Checking.{checkedOf}
 use Rattle.checking.specs.declared.Checked.{Checked}
 use Rattle.planning.specs.declared.Totals.{Totals}
 use Rattle.planner.specs.declared.Counts.{Counts}
 use Rattle.planner.specs.declared.Planned.{Planned}
 use Rattle.planner.specs.declared.Mark.{Mark}
-use Rattle.planner.specs.declared.Mark.the-variants.{Missing, Short, Sparing}
+use Rattle.planner.specs.declared.Mark.the-variants.{Unmarked, Short, Sparing}
 
--- "the mark (short or sparing)"
-abbrev pub markAs : Chosen → Mark
-markAs isShort = Short
-markAs isSparing = Sparing
+-- "the mark (short or sparing)", and no mark
+abbrev pub markAs : Option MarkGiven → Mark
+markAs none = Unmarked
+markAs (some isShort) = Short
+markAs (some isSparing) = Sparing
 
--- the rounds and the fetches of each disk, and all 0
-abbrev pub countsAs : Given → Counts
+-- "the mark (0 short, 1 sparing)"; a call without a mark writes none
+abbrev pub markNumber : Mark → ℕ
+markNumber Unmarked = 0
+markNumber Short = 0
+markNumber Sparing = 1
+
+-- the rounds and the fetches of each disk
+abbrev pub countsAs : CountsGiven → Counts
 countsAs c = record { rounds = c .rounds; fetches = c .fetches }
 
-abbrev pub noCounts : Counts
-noCounts = record { rounds = 0; fetches = replicate 8 0 }
-
--- What planning gives; "a refused call returns its number with all counts 0".
-unfoldable pub plannedAs : Answer Answered → Planned
-plannedAs (given p) = record {
-  number = 0;
-  mark = markAs (p .mark);
-  part = p .part;
-  short = countsAs (p .short);
-  sparing = countsAs (p .sparing);
-}
-plannedAs (refused n) = record {
-  number = n;
-  mark = Missing;
-  part = 0;
-  short = noCounts;
-  sparing = noCounts;
+-- What a planning call returns.
+unfoldable pub plannedAs : Returned → Planned
+plannedAs r = record {
+  number = r .number;
+  mark = markAs (r .mark);
+  length = r .partLength;
+  short = countsAs (r .short);
+  sparing = countsAs (r .sparing);
 }
 
-abbrev pub pickMark : Bool → Mark
-pickMark true = Sparing
-pickMark false = Short
+-- A planning call for a ticket and two lent buffers, of which only the lengths count.
+abbrev pub planInto : List ℕ → List ℕ → List ℕ → Answer PlanGiven
+planInto ticket short sparing = planAnswer ticket (length short) (length sparing)
+
+-- The number of two sheets of m and n bytes for two buffers: 17, 18, or 0 where both fit.
+unfoldable pub roomNumber : ℕ → ℕ → ℕ → ℕ → ℕ
+roomNumber m room₁ n room₂ = cond (ltb room₁ m) 17 (cond (ltb room₂ n) 18 0)
 
 abbrev pub totalCounts : Totals → Counts
 totalCounts a = record { rounds = a .rounds; fetches = a .fetches }
@@ -60,52 +65,33 @@ totalCounts a = record { rounds = a .rounds; fetches = a .fetches }
 unfoldable pub outcomeOf : Totals → ℕ → Totals → ℕ → Planned
 outcomeOf a m b n = record {
   number = 0;
-  mark = pickMark (eqb (a .rounds) (b .rounds));
-  part = cond (eqb (a .rounds) (b .rounds)) n m;
+  mark = markAs (some (markFor (a .rounds) (b .rounds)));
+  length = chosen (markFor (a .rounds) (b .rounds)) m n;
   short = totalCounts a;
   sparing = totalCounts b;
 }
 
--- Demand 3, for the check: a sheet that passes takes at least the short plan's rounds, and on every disk at least the sparing plan's fetches.
+-- Demand 2, of what a check returns: it passes a sheet exactly if that is a valid schedule of the ticket, and with that schedule's counts.
+unfoldable pub Exact : List ℕ → List ℕ → Checked → Type 0
+unfolding ticketOf countsOf checkedOf
+Exact ticket sheet r =
+    ((r .number ≡ 0) ↔ ((j : Job) × (schedule : Schedule) × (ticketOf ticket ≡ given j) × ValidSheet j sheet schedule))
+    × ((j : Job) (schedule : Schedule) → ticketOf ticket ≡ given j → ValidSheet j sheet schedule → r ≡ checkedOf (given (countsOf schedule)))
+
+-- Demand 3, of what a check returns: a sheet that passes takes at least the short plan's rounds, and on every disk at least the sparing plan's
+-- fetches.
 unfoldable pub Unbeaten : List ℕ → Checked → Type 0
 unfolding ticketOf shortCounts sparingCounts
-Unbeaten t r = r .number ≡ 0
-    → (j : Job) → ticketOf t ≡ given j → (shortCounts j .rounds ≤ r .rounds) × ((d : ℕ) → fetchesOn (sparingCounts j) d ≤ getD (r .fetches) d 0)
+Unbeaten ticket r = r .number ≡ 0
+    → (j : Job) → ticketOf ticket ≡ given j → (shortCounts j .rounds ≤ r .rounds) × ((d : ℕ) → fetchesOn (sparingCounts j) d ≤ getD (r .fetches) d 0)
 
--- Demands 2 and 3, for planning: either sheet passes the check with the counts given; the mark is sparing exactly when both plans take equally many
+-- Demands 2 and 3, of planning: either sheet passes the check with the counts given; the mark is sparing exactly when both plans take equally many
 -- rounds; and no sheet that passes takes fewer rounds than the one handed back, or on any disk fewer fetches than the sparing one.
-unfoldable pub Kept : List ℕ → Answer Answered → Type 0
-unfolding checking
-Kept t (given p) =
-    (checking t (p .shortSheet) ≡ given (p .short))
-    × (checking t (p .sparingSheet) ≡ given (p .sparing))
+unfoldable pub Promised : List ℕ → Answer PlanGiven → Type 0
+unfolding checkAnswer
+Promised ticket (given p) =
+    (checkAnswer ticket (p .shortSheet) ≡ given (p .short))
+    × (checkAnswer ticket (p .sparingSheet) ≡ given (p .sparing))
     × ((p .mark ≡ isSparing) ↔ (p .short .rounds ≡ p .sparing .rounds))
-    × ((s : List ℕ) (c : Given) → checking t s ≡ given c → (handedCounts p .rounds ≤ c .rounds) × ((d : ℕ) → fetchesOn (p .sparing) d ≤ fetchesOn c d))
-Kept t (refused n) = Unit {0}
-
--- "the mark (0 short, 1 sparing)"
-abbrev pub markNumber : Mark → ℕ
-markNumber Missing = 0
-markNumber Short = 0
-markNumber Sparing = 1
-
--- the rounds and the eight fetch counts
-abbrev pub nineOf : ℕ → List ℕ → List ℕ
-nineOf rounds f = rounds ∷ getD f 0 0 ∷ getD f 1 0 ∷ getD f 2 0 ∷ getD f 3 0 ∷ getD f 4 0 ∷ getD f 5 0 ∷ getD f 6 0 ∷ getD f 7 0 ∷ []
-
--- in which buffer the part is
-abbrev pub pickBuffer : {A : Type 0} → Mark → A → A → A
-pickBuffer Missing a b = a
-pickBuffer Short a b = a
-pickBuffer Sparing a b = b
-
--- how long it is
-abbrev pub partLength : Mark → ℕ → ℕ
-partLength Missing n = 0
-partLength Short n = n
-partLength Sparing n = n
-
--- "the part of one of the two lent buffers that holds the chosen sheet", as far as that buffer reaches; an empty part of the short buffer where there
--- is no mark.
-unfoldable pub partOf : List ℕ → List ℕ → Planned → List ℕ
-partOf short sparing p = take (partLength (p .mark) (p .part)) (pickBuffer (p .mark) short sparing)
+    × ((s : List ℕ) (c : CountsGiven) → checkAnswer ticket s ≡ given c → (handedCounts p .rounds ≤ c .rounds) × ((d : ℕ) → fetchesOn (p .sparing) d ≤ fetchesOn c d))
+Promised ticket (refused n) = Unit {0}

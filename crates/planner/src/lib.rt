@@ -1,18 +1,22 @@
 // The public calls: planning, the chooser of the sheet that is run, the check, and both from C. Document 01, its calls.
 use checking::Checked;
+use job::Job;
 use planning::Totals;
 ghost use mathlib.Core.Path.{_≡_};
-ghost use Prim.Native.Nat.{_≤_};
-ghost use lib.ListN.{length};
-ghost use Rattle.bits.specs.Bits.{laid};
-ghost use Rattle.bits.specs.Reading.{refused};
-ghost use Rattle.model.specs.Calls.{planning, checking, written, countsWritten, countsNumbers, planningNumbers, numberOf, halves};
+ghost use mathlib.Core.List.{_∷_};
+ghost use Prim.Native.Nat.{_*_, _≤_};
+ghost use lib.ListN.{length, getD, take};
+ghost use Rattle.bits.specs.Fields.{laidAt};
+ghost use Rattle.bits.specs.Reading.{given, refused};
+ghost use Rattle.job.specs.Meaning.{jobOf, Fits};
+ghost use Rattle.model.specs.Plans.{each};
+ghost use Rattle.model.specs.Calls.{markFor, chosen, plannedFor, shortAfter, sparingAfter, returned, partOf, checkAnswer, countsWritten, countsNumbers, planningNumbers, numberOf, halves};
 ghost use Rattle.checking.specs.Checking.{checkedOf};
-ghost use Rattle.planner.specs.Planner.{plannedAs, totalCounts, outcomeOf, Unbeaten, Kept, partOf, pickBuffer, markNumber, nineOf};
+ghost use Rattle.planner.specs.Planner.{plannedAs, planInto, roomNumber, totalCounts, outcomeOf, Unbeaten, Exact, Promised, markNumber};
 
-// The mark of the sheet that is run; none on a refusal.
+// The mark of the sheet that is run; `Unmarked` on a refusal.
 pub enum Mark {
-    Missing,
+    Unmarked,
     Short,
     Sparing,
 }
@@ -28,14 +32,14 @@ pub struct Counts {
 pub struct Planned {
     pub number: usize,
     pub mark: Mark,
-    pub part: usize,
+    pub length: usize,
     pub short: Counts,
     pub sparing: Counts,
 }
 
 // A refused planning call.
 fn refusal(number: usize) -> Planned
-    ensures { λ r. ⌜ r ≡ plannedAs (refused number) ⌝ }
+    ensures { λ r. ⌜ r ≡ plannedAs (returned (refused number)) ⌝ }
 {
     let none = Counts {
         rounds: 0,
@@ -43,8 +47,8 @@ fn refusal(number: usize) -> Planned
     };
     Planned {
         number,
-        mark: Mark::Missing,
-        part: 0,
+        mark: Mark::Unmarked,
+        length: 0,
         short: none,
         sparing: none,
     }
@@ -61,7 +65,54 @@ fn counted(plan: Totals) -> Counts
     }
 }
 
-// What two plans with sheets of m and n bytes give. "The sparing sheet exactly when both take equally many rounds, otherwise the short one."
+// The chooser. "The sparing sheet exactly when both take equally many rounds, otherwise the short one": of two slices, for the short and the sparing
+// plan, by the rounds a and b of these plans.
+fn choose<'a>(a: usize, b: usize, short: &'a [u8], sparing: &'a [u8]) -> &'a [u8]
+    ensures bytes { λ r. ⌜ now r ≡ chosen (markFor a b) (now (short .entry)) (now (sparing .entry)) ⌝ }
+    ensures buffer { λ r. ⌜ r .ptr ≡ chosen (markFor a b) (short .entry .ptr) (sparing .entry .ptr) ⌝ }
+{
+    if a == b {
+        return sparing;
+    }
+    short
+}
+
+// The first n bytes of a slice, or all that it has.
+fn front<'a>(lent: &'a [u8], n: usize) -> &'a [u8]
+    ensures bytes { λ r. ⌜ now r ≡ take n (now (lent .entry)) ⌝ }
+    ensures buffer { λ r. ⌜ r .ptr ≡ lent .entry .ptr ⌝ }
+{
+    if n <= lent.len() {
+        return &lent[..n];
+    }
+    lent
+}
+
+// "The part of one of the two lent buffers that holds the chosen sheet": of the buffers of a planning call and what that call gave. After a refusal
+// it is empty; of other buffers it is as many bytes as there are, at most the part's length.
+pub fn part<'a>(short: &'a [u8], sparing: &'a [u8], planned: Planned) -> &'a [u8]
+    ensures bytes { λ r. ⌜ now r ≡ partOf (planned .length) (planned .short .rounds) (planned .sparing .rounds) (now (short .entry)) (now (sparing .entry)) ⌝ }
+    ensures buffer { λ r. ⌜ r .ptr ≡ chosen (markFor (planned .short .rounds) (planned .sparing .rounds)) (short .entry .ptr) (sparing .entry .ptr) ⌝ }
+{
+    let a = planned.short;
+    let b = planned.sparing;
+    front(choose(a.rounds, b.rounds, short, sparing), planned.length)
+}
+
+// The number of two sheets of m and n bytes for two buffers: 17, 18, or 0 where both fit.
+fn room_number(m: usize, short: usize, n: usize, sparing: usize) -> usize
+    ensures { λ r. ⌜ r ≡ roomNumber m short n sparing ⌝ }
+{
+    if short < m {
+        return 17;
+    }
+    if sparing < n {
+        return 18;
+    }
+    0
+}
+
+// What two plans with sheets of m and n bytes give, with the mark of the sheet that the chooser takes.
 fn outcome(short: Totals, m: usize, sparing: Totals, n: usize) -> Planned
     ensures { λ r. ⌜ r ≡ outcomeOf short m sparing n ⌝ }
 {
@@ -69,7 +120,7 @@ fn outcome(short: Totals, m: usize, sparing: Totals, n: usize) -> Planned
         return Planned {
             number: 0,
             mark: Mark::Sparing,
-            part: n,
+            length: n,
             short: counted(short),
             sparing: counted(sparing),
         };
@@ -77,45 +128,57 @@ fn outcome(short: Totals, m: usize, sparing: Totals, n: usize) -> Planned
     Planned {
         number: 0,
         mark: Mark::Short,
-        part: m,
+        length: m,
         short: counted(short),
         sparing: counted(sparing),
     }
 }
 
-// Planning: a ticket, and the lent buffers for the short and the sparing sheet.
-pub fn plan(ticket: &[u8], short: &mut [u8], sparing: &mut [u8]) -> Planned
-    ensures answer { λ r. ⌜ r ≡ plannedAs (planning (now (ticket .entry)) (length (now (short .entry))) (length (now (sparing .entry)))) ⌝ }
-    ensures short { λ r. ⌜ now (short .exit) ≡ written (λ p. p .shortSheet) (planning (now (ticket .entry)) (length (now (short .entry))) (length (now (sparing .entry)))) (now (short .entry)) ⌝ }
-    ensures sparing { λ r. ⌜ now (sparing .exit) ≡ written (λ p. p .sparingSheet) (planning (now (ticket .entry)) (length (now (short .entry))) (length (now (sparing .entry)))) (now (sparing .entry)) ⌝ }
-    ensures kept { λ r. ⌜ Kept (now (ticket .entry)) (planning (now (ticket .entry)) (length (now (short .entry))) (length (now (sparing .entry)))) ⌝ }
+// Planning of a job: both plans are made in scratch sheets, and copied where both fit.
+fn plan_job(job: Job, short: &mut [u8], sparing: &mut [u8]) -> Planned
+    requires { ⌜ Fits job ⌝ }
+    ensures { λ r. ⌜ (let a = plannedFor (length (now (short .entry))) (length (now (sparing .entry))) (given (jobOf job)) in
+        (r ≡ plannedAs (returned a))
+        × (now (short .exit) ≡ shortAfter a (now (short .entry)))
+        × (now (sparing .exit) ≡ sparingAfter a (now (sparing .entry)))) ⌝ }
 {
-    let read = ticket::read(ticket);
-    if read.number != 0 {
-        return refusal(read.number);
-    }
     let mut first = [0u8; 40968];
     let mut second = [0u8; 40968];
-    let plans = planning::run(read.job, &mut first, &mut second);
+    let plans = planning::run(job, &mut first, &mut second);
     let a = plans.short;
     let b = plans.sparing;
     let m = (a.bits + 7) / 8;
-    if short.len() < m {
-        return refusal(17);
-    }
     let n = (b.bits + 7) / 8;
-    if sparing.len() < n {
-        return refusal(18);
+    let number = room_number(m, short.len(), n, sparing.len());
+    if number != 0 {
+        return refusal(number);
     }
     bits::copy_front(&first, m, short);
     bits::copy_front(&second, n, sparing);
     outcome(a, m, b, n)
 }
 
-// The check: a ticket and a sheet.
+// Planning: a ticket, and the lent buffers for the short and the sparing sheet. What it returns, both buffers afterwards, and what is promised.
+pub fn plan(ticket: &[u8], short: &mut [u8], sparing: &mut [u8]) -> Planned
+    ensures { λ r. ⌜ (let a = planInto (now (ticket .entry)) (now (short .entry)) (now (sparing .entry)) in
+        (r ≡ plannedAs (returned a))
+        × (now (short .exit) ≡ shortAfter a (now (short .entry)))
+        × (now (sparing .exit) ≡ sparingAfter a (now (sparing .entry)))
+        × Promised (now (ticket .entry)) a) ⌝ }
+{
+    let read = ticket::read(ticket);
+    if read.number != 0 {
+        return refusal(read.number);
+    }
+    plan_job(read.job, short, sparing)
+}
+
+// The check: a ticket and a sheet. What it returns, and what is promised.
 pub fn check(ticket: &[u8], sheet: &[u8]) -> Checked
-    ensures answer { λ r. ⌜ r ≡ checkedOf (checking (now (ticket .entry)) (now (sheet .entry))) ⌝ }
-    ensures unbeaten { λ r. ⌜ Unbeaten (now (ticket .entry)) r ⌝ }
+    ensures { λ r. ⌜ (let a = checkAnswer (now (ticket .entry)) (now (sheet .entry)) in
+        (r ≡ checkedOf a)
+        × Exact (now (ticket .entry)) (now (sheet .entry)) r
+        × Unbeaten (now (ticket .entry)) r) ⌝ }
 {
     let read = ticket::read(ticket);
     if read.number != 0 {
@@ -128,85 +191,45 @@ pub fn check(ticket: &[u8], sheet: &[u8]) -> Checked
     checking::check(read.job, sheet)
 }
 
-// The part of one of the two lent buffers that holds the chosen sheet. After a refusal it is an empty part of the short buffer; of buffers other than
-// those of the call it gives as many bytes as there are, at most the part's length.
-pub fn part<'a>(short: &'a [u8], sparing: &'a [u8], planned: Planned) -> &'a [u8]
-    ensures bytes { λ r. ⌜ now r ≡ partOf (now (short .entry)) (now (sparing .entry)) planned ⌝ }
-    ensures buffer { λ r. ⌜ r .ptr ≡ pickBuffer (planned .mark) (short .entry .ptr) (sparing .entry .ptr) ⌝ }
-{
-    let n = planned.part;
-    let mark = planned.mark;
-    match mark {
-        Mark::Missing => &short[..0],
-        Mark::Short => {
-            if n <= short.len() {
-                return &short[..n];
-            }
-            short
-        }
-        Mark::Sparing => {
-            if n <= sparing.len() {
-                return &sparing[..n];
-            }
-            sparing
-        }
-    }
-}
-
 // The mark as a number.
 fn mark_number(mark: Mark) -> usize
     ensures { λ r. ⌜ r ≡ markNumber mark ⌝ }
 {
     match mark {
-        Mark::Missing => 0,
+        Mark::Unmarked => 0,
         Mark::Short => 0,
         Mark::Sparing => 1,
     }
 }
 
-// The rounds and the eight fetch counts as nine numbers.
-fn nine(rounds: usize, f: [u16; 8]) -> [usize; 9]
-    ensures { λ r. ⌜ r ≡ nineOf rounds f ⌝ }
+// Rounds and eight fetch counts, in 16 bits each and most significant byte first, written as far as the slice reaches, from the number `from` on.
+fn lay_counts(counts: &mut [u8], from: usize, rounds: usize, fetches: [u16; 8])
+    requires { ⌜ from ≤ 11 ⌝ }
+    ensures { λ r. ⌜ now (counts .exit) ≡ laidAt (from * 2) (halves (rounds ∷ each (λ d. getD fetches d 0) 0 8)) (now (counts .entry)) ⌝ }
 {
-    [
-        rounds,
-        f[0] as usize,
-        f[1] as usize,
-        f[2] as usize,
-        f[3] as usize,
-        f[4] as usize,
-        f[5] as usize,
-        f[6] as usize,
-        f[7] as usize,
-    ]
-}
-
-// Numbers in 16 bits each, most significant byte first, written as far as the slice reaches.
-fn lay(counts: &mut [u8], numbers: &[usize])
-    requires { ⌜ length (now numbers) ≤ 20 ⌝ }
-    ensures { λ r. ⌜ now (counts .exit) ≡ laid (halves (now (numbers .entry))) (now (counts .entry)) ⌝ }
-{
-    let mut i = 0;
-    while i < numbers.len() {
-        bits::lay16(counts, i, numbers[i]);
-        i += 1;
+    bits::lay16(counts, from, rounds);
+    let mut d = 0;
+    while d < 8 {
+        bits::lay16(counts, from + 1 + d, fetches[d] as usize);
+        d += 1;
     }
 }
 
 // The check, from C: its number, and its rounds and eight fetch counts in `counts`, as far as that reaches.
 #[no_mangle]
 pub extern "C" fn planner_check(ticket: &[u8], sheet: &[u8], counts: &mut [u8]) -> u32
-    ensures number { λ r. ⌜ r ≡ numberOf (checking (now (ticket .entry)) (now (sheet .entry))) ⌝ }
-    ensures counts { λ r. ⌜ now (counts .exit) ≡ countsWritten countsNumbers (checking (now (ticket .entry)) (now (sheet .entry))) (now (counts .entry)) ⌝ }
-    ensures unbeaten { λ r. ⌜ Unbeaten (now (ticket .entry)) (checkedOf (checking (now (ticket .entry)) (now (sheet .entry)))) ⌝ }
+    ensures { λ r. ⌜ (let a = checkAnswer (now (ticket .entry)) (now (sheet .entry)) in
+        (r ≡ numberOf a)
+        × (now (counts .exit) ≡ countsWritten countsNumbers a (now (counts .entry)))
+        × Exact (now (ticket .entry)) (now (sheet .entry)) (checkedOf a)
+        × Unbeaten (now (ticket .entry)) (checkedOf a)) ⌝ }
 {
     let c = check(ticket, sheet);
     if c.number != 0 {
         return c.number as u32;
     }
-    let f = c.fetches;
-    let numbers = nine(c.rounds, f);
-    lay(counts, &numbers);
+    let fetches = c.fetches;
+    lay_counts(counts, 0, c.rounds, fetches);
     0
 }
 
@@ -219,11 +242,12 @@ pub extern "C" fn planner_plan(
     sparing: &mut [u8],
     counts: &mut [u8],
 ) -> u32
-    ensures number { λ r. ⌜ r ≡ numberOf (planning (now (ticket .entry)) (length (now (short .entry))) (length (now (sparing .entry)))) ⌝ }
-    ensures short { λ r. ⌜ now (short .exit) ≡ written (λ p. p .shortSheet) (planning (now (ticket .entry)) (length (now (short .entry))) (length (now (sparing .entry)))) (now (short .entry)) ⌝ }
-    ensures sparing { λ r. ⌜ now (sparing .exit) ≡ written (λ p. p .sparingSheet) (planning (now (ticket .entry)) (length (now (short .entry))) (length (now (sparing .entry)))) (now (sparing .entry)) ⌝ }
-    ensures counts { λ r. ⌜ now (counts .exit) ≡ countsWritten planningNumbers (planning (now (ticket .entry)) (length (now (short .entry))) (length (now (sparing .entry)))) (now (counts .entry)) ⌝ }
-    ensures kept { λ r. ⌜ Kept (now (ticket .entry)) (planning (now (ticket .entry)) (length (now (short .entry))) (length (now (sparing .entry)))) ⌝ }
+    ensures { λ r. ⌜ (let a = planInto (now (ticket .entry)) (now (short .entry)) (now (sparing .entry)) in
+        (r ≡ numberOf a)
+        × (now (short .exit) ≡ shortAfter a (now (short .entry)))
+        × (now (sparing .exit) ≡ sparingAfter a (now (sparing .entry)))
+        × (now (counts .exit) ≡ countsWritten planningNumbers a (now (counts .entry)))
+        × Promised (now (ticket .entry)) a) ⌝ }
 {
     let p = plan(ticket, short, sparing);
     if p.number != 0 {
@@ -234,30 +258,9 @@ pub extern "C" fn planner_plan(
     let b = p.sparing;
     let f = a.fetches;
     let g = b.fetches;
-    let x = nine(a.rounds, f);
-    let y = nine(b.rounds, g);
-    let numbers = [
-        mark_number(mark),
-        p.part,
-        x[0],
-        x[1],
-        x[2],
-        x[3],
-        x[4],
-        x[5],
-        x[6],
-        x[7],
-        x[8],
-        y[0],
-        y[1],
-        y[2],
-        y[3],
-        y[4],
-        y[5],
-        y[6],
-        y[7],
-        y[8],
-    ];
-    lay(counts, &numbers);
+    bits::lay16(counts, 0, mark_number(mark));
+    bits::lay16(counts, 1, p.length);
+    lay_counts(counts, 2, a.rounds, f);
+    lay_counts(counts, 11, b.rounds, g);
     0
 }

@@ -5,14 +5,14 @@ use mathlib.Core.List.{List, [], _++_, append-nil}
 use Prim.Native.Nat.{ℕ, suc, _+_, _*_, _≤_, _<_}
 use native.Mathlib.Numerals.{add-one}
 use native.Mathlib.Omega.{arith}
-use lib.Dec.{ltb, eqb}
-use lib.ListN.{length, getD, set, replicate, length-append, length-set, length-take, length-replicate, getD-replicate, List·getD-eq-default}
+use lib.Dec.{eqb}
+use lib.ListN.{length, getD, set, replicate, length-append, length-set, length-take, length-replicate}
 use lib.Seq.{take-all, ext-getD}
-use borrow.Author.Tests.{ltb-true, ltb-false, eqb-true, eqb-false}
+use borrow.Author.Tests.{eqb-true, eqb-false}
 use Rattle.bits.specs.Bits.{digits, bytes}
 use Rattle.bits.specs.Fields.{putBits, clearFrom}
 use Rattle.bits.proofs.Bits.{length-digits}
-use Rattle.bits.proofs.Logic.{by-test}
+use Rattle.bits.proofs.Logic.{by-test, getD-same}
 use Rattle.model.specs.Job.{Job, diskCount, refCount, refAt}
 use Rattle.model.specs.Playing.{Schedule, State, start, noneResident, isResident, actAll, playRound, total, fetched as fetchedOf, fetches as fetchesOf}
 use Rattle.model.specs.Rules.{Rule, distance}
@@ -186,12 +186,6 @@ module _ (spares : Bool) (disks : ℕ) (slots : List ℕ) (blocks : ℕ) (disk r
         })
 
   -- the start of a plan
-  zero-at : (n i : ℕ) → getD {A = ℕ} (replicate n 0) i 0 ≡ 0
-  zero-at n i =
-      by-test (ltb i n)
-      (λ e. getD-replicate {A = ℕ} n i 0 0 (ltb-true i n e))
-      (λ e. List·getD-eq-default {A = ℕ} (replicate n 0) 0 {n = i} (let q = ltb-false i n e in let r = length-replicate {A = ℕ} n 0 in omega (arith, q, r)))
-
   pub between-start : (b : Buffers) (look later next sheet : List ℕ) → b ≡ emptyBuffers → Right j (start j) (replicate 512 0) look later next → sheet ≡ replicate 40968 0
       → Between 0 b (replicate 512 0) look later next (replicate 8 0) (replicate 8 0) (replicate 8 0) sheet 12
   unfolding start noneResident emptyBuffers midState actAll
@@ -202,12 +196,12 @@ module _ (spares : Bool) (disks : ℕ) (slots : List ℕ) (blocks : ℕ) (disk r
         tables = record {
           holds = holds-start j (setting .sound .fewDisks);
           right = right;
-          small = λ i l. (let z = zero-at 512 i in omega (arith, z));
+          small = λ i l. (let z = getD-same {A = ℕ} 512 i 0 in omega (arith, z));
           chosen = λ d l. absurd (omega arith);
           longFetched = length-replicate {A = ℕ} 8 0;
           longDiscarded = length-replicate {A = ℕ} 8 0;
-          smallFetched = λ i l. (let z = zero-at 8 i in omega (arith, z));
-          smallDiscarded = λ i l. (let z = zero-at 8 i in omega (arith, z));
+          smallFetched = λ i l. (let z = getD-same {A = ℕ} 8 i 0 in omega (arith, z));
+          smallDiscarded = λ i l. (let z = getD-same {A = ℕ} 8 i 0 in omega (arith, z));
         };
         told = told-start rule (lawful-of spares) j (setting .sound);
       }))

@@ -8,7 +8,7 @@ use lib.ListN.{length, getD, replicate, length-append, length-map}
 use borrow.Author.Tests.{lt-ltb, le-ltb, ltb-true, ltb-false}
 use Rattle.bits.specs.Bits.{leading, bytes}
 use Rattle.bits.specs.Fields.{putBits, clearFrom}
-use Rattle.bits.proofs.Logic.{by-test, Each}
+use Rattle.bits.proofs.Logic.{by-test, Each, getD-same}
 use Rattle.bits.proofs.Bits.{Bits, append-bits, length-bytes}
 use Rattle.bits.proofs.Fields.{put-packed, clear-packed, bytes-none}
 use Rattle.model.specs.Job.{Job, Sound, diskCount, refCount}
@@ -134,8 +134,8 @@ module _ (rule : Rule) (lawful : Lawful rule) (j : Job) (sound : Sound j) where
         played = omega arith;
         rounds = (let l = ap length same in omega (arith, l));
         long = refl;
-        counted = λ d. (let z = none-yet d in let l = ap (total fetched d) same in omega (arith, z, l));
-        few = λ d. (let z = none-yet d in omega (arith, z));
+        counted = λ d. (let z = getD-same {A = ℕ} 8 d 0 in let l = ap (total fetched d) same in omega (arith, z, l));
+        few = λ d. (let z = getD-same {A = ℕ} 8 d 0 in omega (arith, z));
         done = [];
         done-bits = none-bits;
         wrote = ap (λ (l : List ℕ). 0 ∷ 0 ∷ l) (bytes-none 40966);
@@ -143,12 +143,6 @@ module _ (rule : Rule) (lawful : Lawful rule) (j : Job) (sound : Sound j) where
         short = omega arith;
         all = ap roundsBits same;
       }
-    where
-      none-yet : (d : ℕ) → getD {A = ℕ} (replicate 8 0) d 0 ≡ 0
-      none-yet d =
-          by-test (ltb d 8)
-          (λ e. lib.ListN.getD-replicate {A = ℕ} 8 d 0 0 (ltb-true d 8 e))
-          (λ e. lib.ListN.List·getD-eq-default {A = ℕ} (replicate 8 0) 0 {n = d} (ltb-false d 8 e))
 
   -- the next round's place in the sheet
   module _ (k : ℕ) (s : State) (fetches sheet : List ℕ) (at : ℕ) (t : Told k s fetches sheet at) where

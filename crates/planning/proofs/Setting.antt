@@ -24,7 +24,6 @@ use Rattle.acting.specs.Acting.{jobWith, ruleOf, Setting}
 use Rattle.writing.specs.Heading.{headed}
 use Rattle.planning.specs.Planning.{totalsOf, plansOf}
 use Rattle.planning.specs.declared.Totals.{Totals}
-use Rattle.planning.specs.declared.Plans.{Plans}
 use Rattle.acting.proofs.Acted.{lawful-of}
 use Rattle.planning.proofs.Starting.{right-start}
 use Rattle.choosing.proofs.Pointing.{follows-ahead, forward-made}

@@ -80,7 +80,7 @@ fn play_rounds(
         at = writing::put_round(sheet, at, disks, &fetched, &discarded);
         writing::tally(&mut fetches, disks, &fetched);
         rounds += 1;
-        'reading: while b.next < refs.len() {
+        while b.next < refs.len() {
             let p = b.next;
             if !b.resident[refs[p] as usize] {
                 continue 'rounds;

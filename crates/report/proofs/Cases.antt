@@ -3,7 +3,7 @@ use mathlib.Core.Path.{_≡_, refl}
 use Rattle.bits.specs.Reading.{bind, _>>=_, _>>_, give, field, refuseIf, many, closing, answer, readAll}
 use Rattle.model.specs.Ticket.{slotsField, diskField, refField, ticketReader, ticketOf}
 use Rattle.model.specs.Playing.{noneResident, load, play}
-use Rattle.model.proofs.Cases.{hex}
+use Rattle.model.proofs.Answers.{hex}
 use Rattle.report.specs.Report.{printed}
 
 -- sparing 4, 0 2, 1 3

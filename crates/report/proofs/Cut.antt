@@ -16,7 +16,7 @@ use Rattle.bits.proofs.Bits.{length-bits}
 use Rattle.bits.proofs.Reading.{stop-got, got-rest, bind-got, field-length, closing-got}
 use Rattle.model.specs.Ticket.{slotsField, diskField, refField, ticketReader, ticketOf}
 use Rattle.model.specs.Job.{Job}
-use Rattle.model.specs.Calls.{planning, plannedFor}
+use Rattle.model.specs.Calls.{planAnswer, plannedFor}
 use Rattle.report.specs.Report.{linesOf, disksOf, printed}
 
 -- what reading gives where more bits follow
@@ -138,5 +138,5 @@ cut-ticket t =
 
 -- What is printed for the first 2,508 bytes of an input is what is printed for the input.
 pub cut-printed : (t : List ℕ) → printed (take 2508 t) ≡ printed t
-unfolding printed planning
+unfolding printed planAnswer
 cut-printed t = ap (λ (a : Answer Job). linesOf (disksOf a) (plannedFor 40962 40962 a)) (cut-ticket t)

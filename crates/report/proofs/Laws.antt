@@ -12,8 +12,7 @@ use borrow.Author.Tests.{lt-ltb, le-ltb, ltb-true, ltb-false}
 use Rattle.bits.specs.Bits.{laid}
 use Rattle.bits.specs.Fields.{laidAt}
 use Rattle.bits.proofs.Logic.{by-test}
-use Rattle.bits.proofs.Fields.{laid-more}
-use Rattle.planner.proofs.Laying.{length-laid}
+use Rattle.bits.proofs.Fields.{laidAt-nil, laid-then, length-laid}
 use Rattle.report.specs.Report.{decimalIn, decimal, lineEnd, diskLines}
 use Rattle.report.specs.Text.{Put}
 
@@ -71,32 +70,13 @@ end-seven n h = let e = length-append (decimal n) (10 ∷ []) in let d = digits-
 
 -- Texts.
 
--- nothing, and one byte
-laid-none : (k : ℕ) (lent : List ℕ) → laidAt k [] lent ≡ lent
-unfolding laidAt laid
-laid-none zero lent = refl
-laid-none (suc k) [] = refl
-laid-none (suc k) (y ∷ lent) = ap (λ (l : List ℕ). y ∷ l) (laid-none k lent)
-
+-- one byte
 laid-byte : (k b : ℕ) (lent : List ℕ) → laidAt k (b ∷ []) lent ≡ set lent k b
 unfolding laidAt laid
 laid-byte zero b [] = refl
 laid-byte zero b (y ∷ lent) = refl
 laid-byte (suc k) b [] = refl
 laid-byte (suc k) b (y ∷ lent) = ap (λ (l : List ℕ). y ∷ l) (laid-byte k b lent)
-
-laid-empty : (s : List ℕ) → laid s [] ≡ []
-unfolding laid
-laid-empty [] = refl
-laid-empty (x ∷ s) = refl
-
--- one text, and then another after it
-laid-then : (k n : ℕ) (s t lent : List ℕ) → n ≡ k + length s → laidAt n t (laidAt k s lent) ≡ laidAt k (s ++ t) lent
-unfolding laidAt laid
-laid-then zero n s t lent e = let l : n ≡ length s = omega arith in rw l (laid-more s t lent)
-laid-then (suc k) zero s t lent e = absurd (omega arith)
-laid-then (suc k) (suc n) s t [] e = rw (laid-empty s, laid-empty t, laid-empty (s ++ t))
-laid-then (suc k) (suc n) s t (y ∷ lent) e = ap (λ (l : List ℕ). y ∷ l) (laid-then k n s t lent (omega arith))
 
 -- one byte, past the end of the slice and before it
 pub put-past : (at b : ℕ) (lent : List ℕ) → length lent ≤ at → Put at (b ∷ []) lent lent (at + 1)
@@ -106,10 +86,10 @@ pub put-byte : (at b : ℕ) (lent : List ℕ) → Put at (b ∷ []) lent (set le
 put-byte at b lent = record { bytes = sym (laid-byte at b lent); next = refl }
 
 pub put-start : (at : ℕ) (lent : List ℕ) → Put at [] lent lent at
-put-start at lent = record { bytes = sym (laid-none at lent); next = omega arith }
+put-start at lent = record { bytes = sym (laidAt-nil at lent); next = omega arith }
 
 pub put-none : (at : ℕ) (lent : List ℕ) → Put at [] lent lent (at + 0)
-put-none at lent = record { bytes = sym (laid-none at lent); next = refl }
+put-none at lent = record { bytes = sym (laidAt-nil at lent); next = refl }
 
 pub put-then : {at : ℕ} {s t a b c : List ℕ} {m n : ℕ} → Put at s a b m → Put m t b c n → Put at (s ++ t) a c n
 put-then {at} {s} {t} {a} {b} {c} {m} {n} p q =
@@ -130,14 +110,8 @@ pub put-same : {at n : ℕ} {s t a b : List ℕ} → s ≡ t → Put at s a b n 
 put-same {at} {n} {s} {t} {a} {b} e p = subst (λ (x : List ℕ). Put at x a b n) e p
 
 -- the slice keeps its length
-length-laid-at : (k : ℕ) (s lent : List ℕ) → length (laidAt k s lent) ≡ length lent
-unfolding laidAt
-length-laid-at zero s lent = length-laid s lent
-length-laid-at (suc k) s [] = ap length (laid-empty s)
-length-laid-at (suc k) s (y ∷ lent) = ap suc (length-laid-at k s lent)
-
 pub put-length : {at n : ℕ} {s a b : List ℕ} → Put at s a b n → length b ≡ length a
-put-length {at} {n} {s} {a} {b} p = ap length (p .bytes) ∙ length-laid-at at s a
+put-length {at} {n} {s} {a} {b} p = ap length (p .bytes) ∙ length-laid at s a
 
 -- one disk more
 pub put-disk : {at l m n : ℕ} {a b c e : List ℕ} (fetches : ℕ → ℕ) (d : ℕ) → Put at (diskLines fetches d) a b l → Put l (decimal d) b c m → Put m (lineEnd (fetches d)) c e n

@@ -7,7 +7,7 @@ use lib.Dec.{ltb}
 use Rattle.bits.specs.Reading.{Answer, given, refused}
 use Rattle.model.specs.Job.{Job, diskCount}
 use Rattle.model.specs.Ticket.{ticketOf}
-use Rattle.model.specs.Calls.{fetchesOn, Mark, isShort, isSparing, Planned, handedCounts, planning}
+use Rattle.model.specs.Calls.{fetchesOn, Mark, isShort, isSparing, Planned, handedCounts, planAnswer}
 
 -- A number in decimal digits, most significant first and no zero before them; `most` digits at the most.
 unfoldable pub decimalIn : ℕ → ℕ → List ℕ
@@ -51,5 +51,5 @@ disksOf (refused n) = 0
 
 -- The text for a ticket. "The longest sheet" has 40,962 bytes.
 unfoldable pub printed : List ℕ → List ℕ
-unfolding linesOf ticketOf planning
-printed t = linesOf (disksOf (ticketOf t)) (planning t 40962 40962)
+unfolding linesOf ticketOf planAnswer
+printed t = linesOf (disksOf (ticketOf t)) (planAnswer t 40962 40962)

@@ -8,7 +8,7 @@ use Rattle.model.specs.Calls.{isShort, isSparing}
 use Rattle.planner.specs.declared.Counts.{Counts}
 use Rattle.planner.specs.declared.Planned.{Planned}
 use Rattle.planner.specs.declared.Mark.{Mark}
-use Rattle.planner.specs.declared.Mark.the-variants.{Missing, Short, Sparing}
+use Rattle.planner.specs.declared.Mark.the-variants.{Unmarked, Short, Sparing}
 use Rattle.report.specs.Report.{lineEnd, diskLines, refusedWord, markWord}
 
 -- A text written into a slice from the byte `at` on, as far as the slice reaches: the slice before and after it, and the place after the text.
@@ -22,7 +22,7 @@ unfolding lineEnd diskLines
 planText word c disks = word ++ (lineEnd (c .rounds) ++ diskLines (λ d. getD (c .fetches) d 0) disks)
 
 abbrev pub textBy : Mark → Planned → ℕ → List ℕ
-textBy Missing p disks = refusedWord ++ lineEnd (p .number)
+textBy Unmarked p disks = refusedWord ++ lineEnd (p .number)
 textBy Short p disks = planText (markWord isShort) (p .short) disks
 textBy Sparing p disks = planText (markWord isSparing) (p .sparing) disks
 

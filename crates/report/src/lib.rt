@@ -103,7 +103,7 @@ fn put_planned(out: &mut [u8], planned: Planned, disks: usize) -> usize
 {
     let mark = planned.mark;
     match mark {
-        Mark::Missing => {
+        Mark::Unmarked => {
             let at = put_word(out, 0, b"refused");
             put_end(out, at, planned.number)
         }

@@ -1,5 +1,5 @@
 -- Entries written one after the other: what one more entry does, as the loops do it. Assumes nothing.
-use mathlib.Core.Path.{_≡_, refl, sym, ap, _∙_, subst}
+use mathlib.Core.Path.{_≡_, refl, sym, ap, ap₂, _∙_, subst}
 use mathlib.Core.List.{List}
 use Prim.Native.Nat.{ℕ, suc, _+_, _-_, _*_, _≤_, _<_}
 use native.Mathlib.Numerals.{add-one}
@@ -12,30 +12,16 @@ use Rattle.ticket.specs.declared.Entry.{Entry}
 use Rattle.ticket.specs.declared.Entry.the-variants.{Value as Held, Refused}
 
 module _ (t : List ℕ) (row : Row) (count : ℕ) where
-  -- where entries are left, the next is read
-  fill-next : (at i : ℕ) (table : List ℕ) → i < count
+  -- where entries are left, the next one decides
+  pub fill-by : (at i : ℕ) (table : List ℕ) {e : Entry} → i < count → entryAt t at row ≡ e
       → fill t at row count i (count - i) table
-      ≡ filledBy (entryAt t at row) table (λ v. fill t (at + row .width) row count (i + 1) (count - (i + 1)) (set table i v))
+      ≡ filledBy e table (λ v. fill t (at + row .width) row count (i + 1) (count - (i + 1)) (set table i v))
   unfolding fill
-  fill-next at i table h =
-      let e : count - i ≡ suc (count - (i + 1)) = omega arith in
-      ap (λ (k : ℕ). fill t at row count i k table) e
-      ∙ ap (λ (j : ℕ). filledBy (entryAt t at row) table (λ v. fill t (at + row .width) row count j (count - (i + 1)) (set table i v)))
-      (sym (add-one i))
-
-  pub fill-value : (at i v : ℕ) (table : List ℕ) → i < count → entryAt t at row ≡ Held v
-      → fill t at row count i (count - i) table ≡ fill t (at + row .width) row count (i + 1) (count - (i + 1)) (set table i v)
-  unfolding filledBy
-  fill-value at i v table h e =
-      fill-next at i table h
-      ∙ ap (λ (x : Entry). filledBy x table (λ v. fill t (at + row .width) row count (i + 1) (count - (i + 1)) (set table i v))) e
-
-  pub fill-refused : (at i n : ℕ) (table : List ℕ) → i < count → entryAt t at row ≡ Refused n
-      → fill t at row count i (count - i) table ≡ record { part = noPart n; table = table }
-  unfolding filledBy
-  fill-refused at i n table h e =
-      fill-next at i table h
-      ∙ ap (λ (x : Entry). filledBy x table (λ v. fill t (at + row .width) row count (i + 1) (count - (i + 1)) (set table i v))) e
+  fill-by at i table h e =
+      let left : count - i ≡ suc (count - (i + 1)) = omega arith in
+      ap (λ (k : ℕ). fill t at row count i k table) left
+      ∙ ap₂ (λ (x : Entry) (j : ℕ). filledBy x table (λ v. fill t (at + row .width) row count j (count - (i + 1)) (set table i v)))
+      e (sym (add-one i))
 
   pub fill-whole : (at i : ℕ) (table : List ℕ) → count ≤ i
       → fill t at row count i (count - i) table ≡ record { part = record { number = 0; count = count; next = at }; table = table }
@@ -60,11 +46,12 @@ going-start t at row count lent = record {
 pub going-on : {t : List ℕ} {at : ℕ} {row : Row} {count : ℕ} {lent : List ℕ} {next i v : ℕ} {table : List ℕ}
     → row .width ≤ 12 → i < count → entryAt t next row ≡ Held v → Going t at row count lent next i table
     → Going t at row count lent (next + row .width) (i + 1) (set table i v)
+unfolding filledBy
 going-on {t} {at} {row} {count} {lent} {next} {i} {v} {table} w h e g = record {
   few = omega arith;
   near = omega arith;
   long = length-set table i v ∙ g .long;
-  rest = g .rest ∙ fill-value t row count next i v table h e;
+  rest = g .rest ∙ fill-by t row count next i table h e;
 }
 
 -- what the two ends of such a loop give
@@ -75,8 +62,9 @@ both f e = (sym (ap (λ (x : Filled). x .part) e), sym (ap (λ (x : Filled). x .
 pub going-stopped : {t : List ℕ} {at : ℕ} {row : Row} {count : ℕ} {lent : List ℕ} {next i n : ℕ} {table : List ℕ}
     → i < count → entryAt t next row ≡ Refused n → Going t at row count lent next i table
     → (noPart n ≡ fill t at row count 0 count lent .part) × (table ≡ fill t at row count 0 count lent .table)
+unfolding filledBy
 going-stopped {t} {at} {row} {count} {lent} {next} {i} {n} {table} h e g =
-    both (fill t at row count 0 count lent) (g .rest ∙ fill-refused t row count next i n table h e)
+    both (fill t at row count 0 count lent) (g .rest ∙ fill-by t row count next i table h e)
 
 pub going-whole : {t : List ℕ} {at : ℕ} {row : Row} {count : ℕ} {lent : List ℕ} {next i : ℕ} {table : List ℕ}
     → count ≤ i → Going t at row count lent next i table

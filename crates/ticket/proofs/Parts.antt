@@ -1,6 +1,6 @@
 -- A part of a ticket as a reader reads it: its count, its entries, and then what follows. Assumes nothing.
-use mathlib.Core.Path.{_≡_, refl, sym, ap, _∙_, subst, subst₂}
-use mathlib.Core.Bool.{Bool, true, false}
+use mathlib.Core.Path.{_≡_, refl, sym, ap, _∙_, subst₂}
+use mathlib.Core.Bool.{Bool, true, false, cond}
 use mathlib.Core.List.{List, [], _∷_, _++_}
 use Prim.Native.Nat.{ℕ, zero, suc, _+_, _-_, _*_, _≤_, _<_}
 use native.Mathlib.Nat.{suc-mul, sub-zero, suc-sub-suc, not-suc-le-zero}
@@ -14,12 +14,12 @@ use Rattle.bits.specs.declared.Field.{Field}
 use Rattle.bits.specs.declared.Field.the-variants.{Value, Ended}
 use Rattle.bits.proofs.Reading.{bind-ok}
 use Rattle.job.specs.Meaning.{padTo}
-use Rattle.ticket.specs.Parts.{outside, pickEntry, entryOf, entryAt, Filled, noPart, filledBy, fill, partAt}
+use Rattle.ticket.specs.Parts.{outside, entryOf, entryAt, entryThen, Filled, noPart, filledBy, fill, partAt}
 use Rattle.ticket.specs.declared.Row.{Row}
 use Rattle.ticket.specs.declared.Part.{Part}
 use Rattle.ticket.specs.declared.Entry.{Entry}
 use Rattle.ticket.specs.declared.Entry.the-variants.{Value as Held, Refused}
-use Rattle.ticket.proofs.Entries.{entryThen, entry-within, entry-reads}
+use Rattle.ticket.proofs.Entries.{entry-within, entry-reads}
 
 -- a refusal is the first that counts
 
@@ -31,22 +31,18 @@ pub then-stop : {A B : Type 0} (m : Reader A) (r : Reader B) (l : List ℕ) {n :
 unfolding _>>_ bind
 then-stop m r l e = ap (λ (x : Read _). bind x (λ _. r)) e
 
--- The numbers of a ticket's refusals.
-pub record Numbered (n : ℕ) : Type 0 where
-  pub some : 1 ≤ n
-  pub few : n ≤ 8
-
-pub entry-numbered : (t : List ℕ) (at : ℕ) (row : Row) {n : ℕ} → Numbered (row .number) → entryAt t at row ≡ Refused n → Numbered n
+-- No refusal has the number 0.
+entry-numbered : (t : List ℕ) (at : ℕ) (row : Row) {n : ℕ} → 1 ≤ row .number → entryAt t at row ≡ Refused n → 1 ≤ n
 unfolding entryAt entryOf
 entry-numbered t at row {n} h e = go (fieldAt t at (row .width)) e
   where
-    tested : (v : ℕ) (b : Bool) → pickEntry b (Refused (row .number)) (Held v) ≡ Refused n → Numbered n
-    tested v true p = let same : row .number ≡ n = cc in subst Numbered same h
+    tested : (v : ℕ) (b : Bool) → cond b (Refused (row .number)) (Held v) ≡ Refused n → 1 ≤ n
+    tested v true p = let same : row .number ≡ n = cc in omega (arith, same, h)
     tested v false p = let z : _≡_ {A = ℕ} 0 1 = cc in absurd (omega arith)
 
-    go : (f : Field) → entryOf row f ≡ Refused n → Numbered n
+    go : (f : Field) → entryOf row f ≡ Refused n → 1 ≤ n
     go (Value v) p = tested v (outside row v) p
-    go Ended p = let same : _≡_ {A = ℕ} 1 n = cc in record { some = omega (arith, same); few = omega (arith, same) }
+    go Ended p = let same : _≡_ {A = ℕ} 1 n = cc in omega (arith, same)
 
 -- A reader of one entry of a row.
 pub record Reads (t : List ℕ) (row : Row) (r : Reader ℕ) : Type 0 where
@@ -56,7 +52,7 @@ pub record Reads (t : List ℕ) (row : Row) (r : Reader ℕ) : Type 0 where
 pub data Filling (t : List ℕ) (row : Row) (count at i k : ℕ) (table : List ℕ) (l : Read (List ℕ)) : Filled → Type 0 where
   whole : (vs : List ℕ) (next : ℕ) → length vs ≡ k → next ≡ at + k * row .width → l ≡ got vs (drop next (bits t))
       → Filling t row count at i k table l (record { part = record { number = 0; count = count; next = next }; table = sets table i vs })
-  broken : (n : ℕ) (left : List ℕ) → Numbered n → l ≡ stop n → Filling t row count at i k table l (record { part = noPart n; table = left })
+  broken : (n : ℕ) (left : List ℕ) → 1 ≤ n → l ≡ stop n → Filling t row count at i k table l (record { part = noPart n; table = left })
 
 module _ (t : List ℕ) (row : Row) (r : Reader ℕ) (count : ℕ) where
   -- one entry before others
@@ -70,14 +66,14 @@ module _ (t : List ℕ) (row : Row) (r : Reader ℕ) (count : ℕ) where
   fill-before at i k v table e (broken n left h q) = broken n left h (bind-ok r _ _ e ∙ bind-stop (many k r) _ _ q)
 
   fill-step : (at i k : ℕ) (table : List ℕ) (e : Entry) (f : ℕ → Filled) → r (drop at (bits t)) ≡ entryThen (drop (at + row .width) (bits t)) give e
-      → ((n : ℕ) → e ≡ Refused n → Numbered n)
+      → ((n : ℕ) → e ≡ Refused n → 1 ≤ n)
       → ((v : ℕ) → Filling t row count (at + row .width) (suc i) k (set table i v) (many k r (drop (at + row .width) (bits t))) (f v))
       → Filling t row count at i (suc k) table (many (suc k) r (drop at (bits t))) (filledBy e table f)
   unfolding filledBy entryThen give many
   fill-step at i k table (Held v) f q h more = fill-before at i k v table q (more v)
   fill-step at i k table (Refused n) f q h more = broken n table (h n refl) (bind-stop r _ _ q)
 
-  fill-reads : Reads t row r → Numbered (row .number) → (at i k : ℕ) (table : List ℕ)
+  fill-reads : Reads t row r → 1 ≤ row .number → (at i k : ℕ) (table : List ℕ)
       → Filling t row count at i k table (many k r (drop at (bits t))) (fill t at row count i k table)
   unfolding fill many give
   fill-reads h b at i zero table = whole [] at refl (omega arith) refl
@@ -92,7 +88,7 @@ pub data PartRead {A : Type 0} (t : List ℕ) (at : ℕ) (counts entries : Row) 
   whole : (count next : ℕ) (vs : List ℕ) → counts .least ≤ count → count < counts .limit → length vs ≡ count
       → next ≡ at + counts .width + count * entries .width → l ≡ more count vs (drop next (bits t))
       → PartRead t at counts entries table more l (record { part = record { number = 0; count = count; next = next }; table = sets table 0 vs })
-  broken : (n : ℕ) (left : List ℕ) → Numbered n → l ≡ stop n → PartRead t at counts entries table more l (record { part = noPart n; table = left })
+  broken : (n : ℕ) (left : List ℕ) → 1 ≤ n → l ≡ stop n → PartRead t at counts entries table more l (record { part = noPart n; table = left })
 
 module _ {A : Type 0} (t : List ℕ) (at : ℕ) (counts entries : Row) (table : List ℕ) (test : ℕ → Bool) (r : Reader ℕ)
     (more : ℕ → List ℕ → Reader A) where
@@ -107,7 +103,7 @@ module _ {A : Type 0} (t : List ℕ) (at : ℕ) (counts entries : Row) (table : 
   part-filled l n p q e (whole vs next len pos g) = whole n next vs p q len pos (e ∙ bind-ok (many n r) _ _ g)
   part-filled l n p q e (broken m left h g) = broken m left h (e ∙ bind-stop (many n r) _ _ g)
 
-  pub part-reads : 0 < counts .width → ((v : ℕ) → test v ≡ outside counts v) → Numbered (counts .number) → Numbered (entries .number)
+  pub part-reads : 0 < counts .width → ((v : ℕ) → test v ≡ outside counts v) → 1 ≤ counts .number → 1 ≤ entries .number
       → Reads t entries r
       → PartRead t at counts entries table more (partReader (drop at (bits t))) (partAt t at counts entries table)
   unfolding partAt filledBy entryThen
@@ -168,17 +164,9 @@ module _ {A : Type 0} (t : List ℕ) (at : ℕ) (counts entries : Row) (size : �
         held = sets-zeros size vs (omega arith);
         goes = e;
       })
-  part-got h (broken n left b e) q s z = let m = ap (λ (x : Part). x .number) q in let some = b .some in absurd (omega (arith, m, some, z))
+  part-got h (broken n left b e) q s z = let m = ap (λ (x : Part). x .number) q in absurd (omega (arith, m, b, z))
 
   pub part-stop : {f : Filled} {p : Part} → PartRead t at counts entries (replicate size 0) more l f → p ≡ f .part → (p .number ≡ 0 → ⊥)
-      → (l ≡ stop (p .number)) × Numbered (p .number)
+      → l ≡ stop (p .number)
   part-stop (whole count next vs least below len pos e) q z = absurd (z (ap (λ (x : Part). x .number) q))
-  part-stop {p = p} (broken n left b e) q z =
-      let same : p .number ≡ n = ap (λ (x : Part). x .number) q in
-      subst (λ (m : ℕ). (l ≡ stop m) × Numbered m) (sym same) (e, b)
-
-  -- every refusal of a part has a number of a ticket's refusals, where what follows it does
-  pub part-numbered : {table : List ℕ} {f : Filled} {n : ℕ} → PartRead t at counts entries table more l f → l ≡ stop n
-      → ((count : ℕ) (vs : List ℕ) (next : ℕ) → more count vs (drop next (bits t)) ≡ stop n → Numbered n) → Numbered n
-  part-numbered (whole count next vs least below len pos e) q h = h count vs next (sym e ∙ q)
-  part-numbered {n = n} (broken m left b e) q h = let same : m ≡ n = cc in subst Numbered same b
+  part-stop (broken n left b e) q z = e ∙ ap stop (sym (ap (λ (x : Part). x .number) q))

@@ -1,5 +1,5 @@
 -- A ticket part by part: disks and slots, blocks and their disks, references, the closing bits. Assumes nothing.
-use mathlib.Core.Path.{_≡_, refl, sym, ap, _∙_, subst}
+use mathlib.Core.Path.{_≡_, sym, ap, _∙_}
 use mathlib.Core.Bool.{Bool, true, false, _||_}
 use mathlib.Core.List.{List}
 use Prim.Native.Nat.{ℕ, _≤_}
@@ -8,9 +8,9 @@ use lib.Dec.{ltb, leb, eqb, lit<, lit≤}
 use lib.ListN.{drop, replicate}
 use borrow.Author.Tests.{lt-ltb, le-ltb, ltb-true, eq-eqb, eqb-true}
 use Rattle.bits.specs.Bits.{bits}
-use Rattle.bits.specs.Reading.{refused, Read, got, stop, Reader, _>>=_, _>>_, give, field, refuseIf, many, isClosed, closing, answer, readAll}
-use Rattle.bits.proofs.Reading.{stop-got, refused-given, then-ok, closing-open, closing-closed, readAll-ok}
-use Rattle.bits.proofs.Logic.{by-test, same-test}
+use Rattle.bits.specs.Reading.{Read, stop, Reader, _>>=_, _>>_, give, field, refuseIf, many, isClosed, closing, answer, readAll}
+use Rattle.bits.proofs.Reading.{then-ok, closing-open, closing-closed, readAll-ok}
+use Rattle.bits.proofs.Logic.{same-test}
 use Rattle.model.specs.Job.{Job}
 use Rattle.model.specs.Ticket.{slotsField, diskField, refField, ticketReader, ticketOf}
 use Rattle.job.specs.Meaning.{stored}
@@ -19,7 +19,7 @@ use Rattle.ticket.specs.Parts.{disksRow, slotsRow, blocksRow, diskRow, r
 use Rattle.ticket.specs.declared.Row.{Row}
 use Rattle.ticket.specs.declared.Part.{Part}
 use Rattle.ticket.proofs.Entries.{entry-reads}
-use Rattle.ticket.proofs.Parts.{then-stop, Numbered, Reads, PartRead, part-reads, Got, part-got, part-stop, part-numbered}
+use Rattle.ticket.proofs.Parts.{then-stop, Reads, PartRead, part-reads, Got, part-got, part-stop}
 
 -- the tests of the readers are those of the rows
 
@@ -48,7 +48,7 @@ ref-reads t b = record { reads = λ at. entry-reads t at (refRow b) (λ v. leb b
 -- what is read after each part
 
 abbrev pub afterRefs : List ℕ → List ℕ → ℕ → List ℕ → Reader Job
-afterRefs slots disks n refs = closing 8 >> give (record { slots = slots; disks = disks; refs = refs })
+afterRefs slots disks n refs = closing 8 >> give (record { slots = slots; blockDisks = disks; refs = refs })
 
 abbrev pub afterDisks : List ℕ → ℕ → List ℕ → Reader Job
 afterDisks slots b disks = field 1 12 >>= λ n. refuseIf 6 (ltb 2048 n) >> (many n (refField b) >>= λ refs. afterRefs slots disks n refs)
@@ -70,29 +70,26 @@ disksPart t at row = partAt t at blocksRow row (replicate 512 0)
 abbrev pub refsPart : List ℕ → ℕ → Row → Filled
 refsPart t at row = partAt t at refsRow row (replicate 2048 0)
 
-numbered : (n : ℕ) → 1 ≤ n → n ≤ 8 → Numbered n
-numbered n p q = record { some = p; few = q }
-
 module _ (t : List ℕ) where
   slots-part : PartRead t 0 disksRow slotsRow (replicate 8 0) afterSlots (ticketReader (bits t)) (slotsPart t)
   unfolding ticketReader
   slots-part =
       part-reads t 0 disksRow slotsRow (replicate 8 0) (λ v. eqb v 0 || ltb 8 v) slotsField afterSlots (lit< tt) (some-test 9)
-      (numbered 2 (lit≤ tt) (lit≤ tt)) (numbered 3 (lit≤ tt) (lit≤ tt)) (slots-reads t)
+      (lit≤ tt) (lit≤ tt) (slots-reads t)
 
   disks-part : (at d : ℕ) (slots : List ℕ)
       → PartRead t at blocksRow (diskRow d) (replicate 512 0) (afterDisks slots) (afterSlots d slots (drop at (bits t)))
       (disksPart t at (diskRow d))
   disks-part at d slots =
       part-reads t at blocksRow (diskRow d) (replicate 512 0) (λ v. eqb v 0 || ltb 512 v) (diskField d) (afterDisks slots) (lit< tt) (some-test 513)
-      (numbered 4 (lit≤ tt) (lit≤ tt)) (numbered 5 (lit≤ tt) (lit≤ tt)) (disk-reads t d)
+      (lit≤ tt) (lit≤ tt) (disk-reads t d)
 
   refs-part : (at b : ℕ) (slots disks : List ℕ)
       → PartRead t at refsRow (refRow b) (replicate 2048 0) (afterRefs slots disks) (afterDisks slots b disks (drop at (bits t)))
       (refsPart t at (refRow b))
   refs-part at b slots disks =
       part-reads t at refsRow (refRow b) (replicate 2048 0) (λ v. ltb 2048 v) (refField b) (afterRefs slots disks) (lit< tt) (any-test 2049)
-      (numbered 6 (lit≤ tt) (lit≤ tt)) (numbered 7 (lit≤ tt) (lit≤ tt)) (ref-reads t b)
+      (lit≤ tt) (lit≤ tt) (ref-reads t b)
 
   -- each part, read
   abbrev pub Slots : Part → List ℕ → Type 0
@@ -116,7 +113,7 @@ module _ (t : List ℕ) where
   slots-got q s z = part-got t 0 disksRow slotsRow 8 afterSlots (ticketReader (bits t)) (lit≤ tt) slots-part q s z
 
   pub slots-refused : {p : Part} → p ≡ slotsPart t .part → (p .number ≡ 0 → ⊥) → ticketRead t ≡ noTicket (p .number)
-  slots-refused {p} q z = stopped (p .number) (part-stop t 0 disksRow slotsRow 8 afterSlots (ticketReader (bits t)) slots-part q z .0)
+  slots-refused {p} q z = stopped (p .number) (part-stop t 0 disksRow slotsRow 8 afterSlots (ticketReader (bits t)) slots-part q z)
 
   module _ (p : Part) (slots : List ℕ) (a : Slots p slots) (row : Row) (is : row ≡ diskRow (p .count)) where
     pub disks-got : {q : Part} {disk : List ℕ} → q ≡ disksPart t (p .next) row .part
@@ -131,7 +128,7 @@ module _ (t : List ℕ) where
         stopped (q .number)
         (a .goes
         ∙ part-stop t (p .next) blocksRow (diskRow (p .count)) 512 (afterDisks (a .values)) _ (disks-part (p .next) (p .count) (a .values))
-        (e ∙ ap (λ (x : Row). disksPart t (p .next) x .part) is) z .0)
+        (e ∙ ap (λ (x : Row). disksPart t (p .next) x .part) is) z)
 
   module _ (p : Part) (slots : List ℕ) (a : Slots p slots) (q : Part) (disk : List ℕ) (b : Disks p (a .values) q disk)
       (row : Row) (is : row ≡ refRow (q .count)) where
@@ -149,7 +146,7 @@ module _ (t : List ℕ) where
         (a .goes ∙ b .goes
         ∙ part-stop t (q .next) refsRow (refRow (q .count)) 2048 (afterRefs (a .values) (b .values)) _
         (refs-part (q .next) (q .count) (a .values) (b .values))
-        (e ∙ ap (λ (x : Row). refsPart t (q .next) x .part) is) z .0)
+        (e ∙ ap (λ (x : Row). refsPart t (q .next) x .part) is) z)
 
   module _ (p : Part) (slots : List ℕ) (a : Slots p slots) (q : Part) (disk : List ℕ) (b : Disks p (a .values) q disk)
       (r : Part) (refs : List ℕ) (c : Refs (a .values) q (b .values) r refs) where
@@ -177,23 +174,3 @@ module _ (t : List ℕ) where
             refs = sym (c .held) i;
           };
         })
-
-  -- the numbers with which a ticket's reader stops
-  stop-numbered : (n : ℕ) → ticketReader (bits t) ≡ stop n → Numbered n
-  unfolding give
-  stop-numbered n e =
-      part-numbered t 0 disksRow slotsRow 8 afterSlots _ slots-part e λ d slots at e.
-      part-numbered t at blocksRow (diskRow d) 512 (afterDisks slots) _ (disks-part at d slots) e λ b disks at e.
-      part-numbered t at refsRow (refRow b) 2048 (afterRefs slots disks) _ (refs-part at b slots disks) e λ k refs at e.
-      by-test (isClosed (drop at (bits t)))
-      (λ c. stop-got (sym e ∙ then-ok (closing 8) _ _ (closing-closed 8 (drop at (bits t)) c)))
-      (λ c. let same : 8 ≡ n = stop-same (sym (then-stop (closing 8) _ _ (closing-open 8 (drop at (bits t)) c)) ∙ e) in
-      subst Numbered same (numbered 8 (lit≤ tt) (lit≤ tt)))
-
-  pub refused-numbered : (n : ℕ) → ticketOf t ≡ refused n → Numbered n
-  unfolding ticketOf readAll answer
-  refused-numbered n e = go (ticketReader (bits t)) refl e
-    where
-      go : (x : Read Job) → ticketReader (bits t) ≡ x → answer x ≡ refused n → Numbered n
-      go (got j rest) q p = refused-given (sym p)
-      go (stop m) q p = let same : m ≡ n = cc in stop-numbered n (q ∙ ap stop same)

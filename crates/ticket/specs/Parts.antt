@@ -1,9 +1,10 @@
 -- A ticket's parts, read from a position on: each is a count and then that many entries. Assumes nothing.
-use mathlib.Core.Bool.{Bool, true, false, _||_}
+use mathlib.Core.Bool.{Bool, cond, _||_}
 use mathlib.Core.List.{List}
 use Prim.Native.Nat.{ℕ, zero, suc, _+_}
 use lib.Dec.{ltb, leb}
 use lib.ListN.{set}
+use Rattle.bits.specs.Reading.{Read, stop, Reader}
 use Rattle.bits.specs.Fields.{fieldAt}
 use Rattle.bits.specs.declared.Field.{Field}
 use Rattle.bits.specs.declared.Field.the-variants.{Value, Ended}
@@ -35,19 +36,20 @@ refRow blocks = record { width = 9; least = 0; limit = blocks; number = 7 }
 abbrev pub outside : Row → ℕ → Bool
 outside row v = ltb v (row .least) || leb (row .limit) v
 
-abbrev pub pickEntry : Bool → Entry → Entry → Entry
-pickEntry true a b = a
-pickEntry false a b = b
-
 -- A field tested as its row says: 1 where the ticket ends inside it comes before the row's own number.
 unfoldable pub entryOf : Row → Field → Entry
-entryOf row (Value v) = pickEntry (outside row v) (Refused (row .number)) (Held v)
+entryOf row (Value v) = cond (outside row v) (Refused (row .number)) (Held v)
 entryOf row Ended = Refused 1
 
 -- The field of a row at the bit `at`.
 unfoldable pub entryAt : List ℕ → ℕ → Row → Entry
 unfolding entryOf
 entryAt t at row = entryOf row (fieldAt t at (row .width))
+
+-- What a reader goes on with after a field: with the value and the bits after it, or not at all, refused with the number.
+unfoldable pub entryThen : {A : Type 0} → List ℕ → (ℕ → Reader A) → Entry → Read A
+entryThen rest more (Held v) = more v rest
+entryThen rest more (Refused n) = stop n
 
 -- A part that was read, and the table that its entries are written into.
 pub record Filled : Type 0 where

@@ -18,10 +18,7 @@ fn checked(t: &[u8], at: usize, row: Row) -> Entry
     let Field::Value(v) = field(t, at, row.width) else {
         return Entry::Refused(1);
     };
-    if v < row.least {
-        return Entry::Refused(row.number);
-    }
-    if row.limit <= v {
+    if v < row.least || row.limit <= v {
         return Entry::Refused(row.number);
     }
     Entry::Value(v)

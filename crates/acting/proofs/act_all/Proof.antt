@@ -9,7 +9,6 @@ use Prim.Native.Nat.{ℕ, _-_, _*_, _≤_, _<_}
 use native.Mathlib.Omega.{arith}
 use lib.Dec.{lit<}
 use lib.ListN.{getD}
-use denote.Ref.{now}
 use Rattle.lookup.proofs.Laws.{below-any}
 use Rattle.model.specs.Job.{Job}
 use Rattle.model.specs.Playing.{State}

@@ -1,8 +1,8 @@
--- `changed` meets its contract. The measure is the number of bytes not looked at. Assumes nothing.
+-- `changed` is safe and ends. The measure is the number of bytes that are left to look at. Assumes nothing.
 use borrow.Author.Needs.{needs}
+use Prim.Native.Nat.{_≤_, _-_}
 use native.Mathlib.Omega.{arith}
-use Prim.Native.Nat.{_≤_}
-use lib.ListN.{length}
+use lib.ListN.{length, length-take}
 use Rattle.cases.proofs.changed.Statement.{statement}
 use Rattle.cases.proofs.changed.Tie as tie
 use Rattle.cases.proofs.changed.Reads as reads
@@ -23,6 +23,9 @@ sub-if1 c = search needs
 shared-slice-read-if1 : tie.Need-shared-slice-read-if1 Inv-loop μ-loop
 shared-slice-read-if1 c = search needs
 
+slice-aggregate-result : tie.Need-slice-aggregate-result Inv-loop μ-loop
+slice-aggregate-result c = let i = c .before .before .before .before .loop .inv in let l = length-take (c .before .before .before .before .loop .n) (c .before .before .before .before .before .args .lent .now) in omega (arith, i, l)
+
 returns : tie.Need-returns Inv-loop μ-loop
 returns c = search needs
 
@@ -34,6 +37,9 @@ loop-less c = search needs
 
 loop-again : tie.Need-loop-again Inv-loop μ-loop
 loop-again c = search needs
+
+slice-aggregate-result-2 : tie.Need-slice-aggregate-result-2 Inv-loop μ-loop
+slice-aggregate-result-2 c = search needs
 
 returns-2 : tie.Need-returns-2 Inv-loop μ-loop
 returns-2 c = search needs
@@ -47,8 +53,10 @@ changed-spec =
     loop-holds
     sub-if1
     shared-slice-read-if1
+    slice-aggregate-result
     returns
     sub-n
     loop-less
     loop-again
+    slice-aggregate-result-2
     returns-2)

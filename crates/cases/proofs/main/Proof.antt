@@ -1,6 +1,5 @@
 -- `main` is safe and ends. The measure is the number of turns left. Assumes nothing.
 use borrow.Author.Needs.{needs}
-use native.Mathlib.Omega.{arith}
 use Rattle.cases.proofs.main.Statement.{statement}
 use Rattle.cases.proofs.main.Tie as tie
 use Rattle.cases.proofs.main.Reads as reads

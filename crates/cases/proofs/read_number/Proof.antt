@@ -1,6 +1,5 @@
 -- `read_number` is safe and ends. Assumes nothing.
 use borrow.Author.Needs.{needs}
-use native.Mathlib.Omega.{arith}
 use Rattle.cases.proofs.read_number.Statement.{statement}
 use Rattle.cases.proofs.read_number.Tie as tie
 use Rattle.cases.proofs.read_number.Reads as reads

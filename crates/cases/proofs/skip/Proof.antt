@@ -1,6 +1,5 @@
 -- `skip` is safe and ends. The measure is the number of turns left. Assumes nothing.
 use borrow.Author.Needs.{needs}
-use native.Mathlib.Omega.{arith}
 use Rattle.cases.proofs.skip.Statement.{statement}
 use Rattle.cases.proofs.skip.Tie as tie
 use Rattle.cases.proofs.skip.Reads as reads

@@ -1,6 +1,5 @@
 -- `write_counts` is safe and ends. The measure is the number of disks left. Assumes nothing.
 use borrow.Author.Needs.{needs}
-use native.Mathlib.Omega.{arith}
 use Prim.Native.Nat.{_≤_, _-_}
 use Rattle.cases.proofs.write_counts.Statement.{statement}
 use Rattle.cases.proofs.write_counts.Tie as tie

@@ -1,7 +1,7 @@
 -- `planner::check` meets its contract, for a ticket that is refused and for one that is not. Assumes nothing.
-use borrow.Author.Needs.{needs}
 use denote.Ref.{now}
-use Rattle.planner.proofs.Laws.{check-refused, check-fits, check-given}
+use Rattle.planner.proofs.Laws.{check-refused, ticket-fits, check-given}
+use borrow.Author.Needs.{needs}
 use Rattle.planner.proofs.check.Statement.{statement}
 use Rattle.planner.proofs.check.Tie as tie
 use Rattle.planner.proofs.check.Reads as reads
@@ -12,18 +12,14 @@ use Rattle.ticket.proofs.read.Reads as read-reads
 read-requires : tie.Need-read-requires
 read-requires c κs = search needs
 
--- the ticket is refused
 returns : tie.Need-returns
 returns c =
     let e = c .before .before .before .before .before in
     check-refused (now (e .args .ticket)) _ (c .before .before .read .ensures) (now (e .args .sheet)) (c .if1 .taken)
 
 check-requires : tie.Need-check-requires
-check-requires c κs =
-    let e = c .before .before .before .before .before in
-    check-fits (now (e .args .ticket)) _ (c .before .before .read .ensures) (c .if1 .left)
+check-requires c κs = ticket-fits _ _ (c .before .before .read .ensures) (c .if1 .left)
 
--- it is not
 returns-2 : tie.Need-returns-2
 returns-2 c =
     let e = c .before .before .before .before .before .before in

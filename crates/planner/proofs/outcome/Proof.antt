@@ -1,6 +1,9 @@
 -- `planner::outcome` meets its contract. Assumes nothing.
+use mathlib.Core.Path.{refl}
+use borrow.Author.Tests.{eq-eqb, ne-eqb}
+use Rattle.model.specs.Calls.{markFor}
+use Rattle.planner.specs.Planner.{outcomeOf}
 use borrow.Author.Needs.{needs}
-use Rattle.planner.proofs.Rooms.{outcome-same, outcome-other}
 use Rattle.planner.proofs.outcome.Statement.{statement}
 use Rattle.planner.proofs.outcome.Tie as tie
 use Rattle.planner.proofs.outcome.Reads as reads
@@ -14,9 +17,8 @@ counted-requires-2 : tie.Need-counted-requires-2
 counted-requires-2 c κs = search needs
 
 returns : tie.Need-returns
-returns c =
-    let e = c .before .before .before .before .before in
-    outcome-same (e .args .short) (e .args .m) (e .args .sparing) (e .args .n) _ _ (c .before .before .if1 .taken) (c .before .counted .ensures) (c .counted2 .ensures)
+unfolding outcomeOf markFor
+returns c = rw (eq-eqb _ _ (c .before .before .if1 .taken), c .before .counted .ensures, c .counted2 .ensures) refl
 
 counted-requires-3 : tie.Need-counted-requires-3
 counted-requires-3 c κs = search needs
@@ -25,9 +27,8 @@ counted-requires-4 : tie.Need-counted-requires-4
 counted-requires-4 c κs = search needs
 
 returns-2 : tie.Need-returns-2
-returns-2 c =
-    let e = c .before .before .before .before .before in
-    outcome-other (e .args .short) (e .args .m) (e .args .sparing) (e .args .n) _ _ (c .before .before .if1 .left) (c .before .counted3 .ensures) (c .counted4 .ensures)
+unfolding outcomeOf markFor
+returns-2 c = rw (ne-eqb _ _ (c .before .before .if1 .left), c .before .counted3 .ensures, c .counted4 .ensures) refl
 
 pub outcome-spec : {M : Type 1} → statement M
 outcome-spec =

@@ -1,5 +1,6 @@
 -- `planner::refusal` meets its contract. Assumes nothing.
 use mathlib.Core.Path.{refl}
+use Rattle.model.specs.Calls.{returned}
 use Rattle.planner.specs.Planner.{plannedAs}
 use Rattle.planner.proofs.refusal.Statement.{statement}
 use Rattle.planner.proofs.refusal.Tie as tie
@@ -7,7 +8,7 @@ use Rattle.planner.proofs.refusal.Reads as reads
 use Rattle.planner.proofs.refusal.Lts as lts
 
 returns : tie.Need-returns
-unfolding plannedAs
+unfolding plannedAs returned
 returns c = refl
 
 pub refusal-spec : {M : Type 1} → statement M

@@ -15,13 +15,13 @@ use Rattle.planning.proofs.Between.{Between, Reads, between-start, betw
 use Rattle.planning.proofs.play_rounds.Statement.{statement}
 use Rattle.planning.proofs.play_rounds.Tie as tie
 
-abbrev Inv-reading : tie.InvT-reading
-Inv-reading disks slots blocks disk refs sparing again follow next₀ later look sheet residents fetched discarded fetches b₀ rounds at next b =
+abbrev Inv-loop : tie.InvT-loop
+Inv-loop disks slots blocks disk refs sparing again follow next₀ later look sheet residents fetched discarded fetches b₀ rounds at next b =
     (setting : Setting (jobWith disks slots blocks disk refs) disks slots blocks refs again follow) × (s : State) × (k : ℕ) × (rounds ≡ suc k)
     × Reads sparing disks slots blocks disk refs again follow setting k s b residents look later next fetched discarded fetches sheet at
 
-abbrev μ-reading : tie.MeasureT-reading
-μ-reading disks slots blocks disk refs sparing again follow next₀ later look sheet residents fetched discarded fetches b₀ rounds at next b = length refs - b .next
+abbrev μ-loop : tie.MeasureT-loop
+μ-loop disks slots blocks disk refs sparing again follow next₀ later look sheet residents fetched discarded fetches b₀ rounds at next b = length refs - b .next
 
 abbrev Inv-rounds : tie.InvT-rounds
 Inv-rounds disks slots blocks disk refs sparing again follow next₀ later₀ look₀ sheet₀ residents₀ fetched₀ discarded₀ fetches₀ b₀ rounds₀ at₀ next later look sheet residents fetched discarded fetches b rounds at =
@@ -31,10 +31,10 @@ Inv-rounds disks slots blocks disk refs sparing again follow next₀ later₀ lo
 abbrev μ-rounds : tie.MeasureT-rounds
 μ-rounds disks slots blocks disk refs sparing again follow next₀ later₀ look₀ sheet₀ residents₀ fetched₀ discarded₀ fetches₀ b₀ rounds₀ at₀ next later look sheet residents fetched discarded fetches b rounds at = length refs - rounds
 
-empty-requires : tie.Need-empty-requires Inv-reading μ-reading Inv-rounds μ-rounds
+empty-requires : tie.Need-empty-requires Inv-loop μ-loop Inv-rounds μ-rounds
 empty-requires c κs = tt
 
-rounds-holds : tie.Need-rounds-holds Inv-reading μ-reading Inv-rounds μ-rounds
+rounds-holds : tie.Need-rounds-holds Inv-loop μ-loop Inv-rounds μ-rounds
 rounds-holds c =
     let e = c .before .before .before in (
       e .pre .0,
@@ -42,14 +42,14 @@ rounds-holds c =
           (c .empty .result) (e .args .look .now) (e .args .later .now) (e .args .next .now) (e .args .sheet .now) (c .empty .ensures) (e .pre .1 .0) (e .pre .1 .1),
     )
 
-act-all-requires : tie.Need-act-all-requires Inv-reading μ-reading Inv-rounds μ-rounds
+act-all-requires : tie.Need-act-all-requires Inv-loop μ-loop Inv-rounds μ-rounds
 act-all-requires c κs =
     let i = c .before .before .before .before .before .before in
     let r = i .before .rounds in
     let e = i .before .before .before .before .before in
     (r .inv .0, (r .inv .1 .ready, r .inv .1 .tables))
 
-put-round-requires : tie.Need-put-round-requires Inv-reading μ-reading Inv-rounds μ-rounds
+put-round-requires : tie.Need-put-round-requires Inv-loop μ-loop Inv-rounds μ-rounds
 put-round-requires c κs =
     let i = c .before .before .before .before .before .before .before .before .before .before in
     let r = i .before .rounds in
@@ -57,14 +57,14 @@ put-round-requires c κs =
     let t = c .before .before .before .act-all .ensures in
     ((r .inv .0 .fewDisks, t .smallFetched, t .smallDiscarded), (between-room (e .args .sparing) (e .args .disks) (e .args .slots .now) (e .args .blocks) (e .args .disk .now) (e .args .refs .now) (e .args .again .now) (e .args .follow .now) (r .inv .0) (r .rounds) (r .b) (r .residents) (r .look) (r .later) (r .next) (r .fetched) (r .discarded) (r .fetches) (r .sheet) (r .at) (r .inv .1) (i .rounds-test .taken), between-clear (e .args .sparing) (e .args .disks) (e .args .slots .now) (e .args .blocks) (e .args .disk .now) (e .args .refs .now) (e .args .again .now) (e .args .follow .now) (r .inv .0) (r .rounds) (r .b) (r .residents) (r .look) (r .later) (r .next) (r .fetched) (r .discarded) (r .fetches) (r .sheet) (r .at) (r .inv .1) (i .rounds-test .taken)))
 
-tally-requires : tie.Need-tally-requires Inv-reading μ-reading Inv-rounds μ-rounds
+tally-requires : tie.Need-tally-requires Inv-loop μ-loop Inv-rounds μ-rounds
 tally-requires c κs =
     let i = c .before .before .before .before .before .before .before .before .before .before .before .before .before .before .before in
     let r = i .before .rounds in
     let e = i .before .before .before .before .before in
     (r .inv .0 .fewDisks, between-few (e .args .sparing) (e .args .disks) (e .args .slots .now) (e .args .blocks) (e .args .disk .now) (e .args .refs .now) (e .args .again .now) (e .args .follow .now) (r .inv .0) (r .rounds) (r .b) (r .residents) (r .look) (r .later) (r .next) (r .fetched) (r .discarded) (r .fetches) (r .sheet) (r .at) (r .inv .1))
 
-add-rounds : tie.Need-add-rounds Inv-reading μ-reading Inv-rounds μ-rounds
+add-rounds : tie.Need-add-rounds Inv-loop μ-loop Inv-rounds μ-rounds
 add-rounds c =
     let i = c .before .before .before .before .before .before .before .before .before .before .before .before .before .before .before .before in
     let r = i .before .rounds in
@@ -74,8 +74,8 @@ add-rounds c =
     let t = i .rounds-test .taken in
     omega (arith, p, few, t)
 
-reading-holds : tie.Need-reading-holds Inv-reading μ-reading Inv-rounds μ-rounds
-reading-holds c =
+loop-holds : tie.Need-loop-holds Inv-loop μ-loop Inv-rounds μ-rounds
+loop-holds c =
     let i = c .before .before .before .before .before .before .before .before .before .before .before .before .before .before .before .before in
     let r = i .before .rounds in
     let e = i .before .before .before .before .before in
@@ -83,7 +83,7 @@ reading-holds c =
     let w = c .before .before .before .before .before .put-round in
     (r .inv .0, _, r .rounds, add-one (r .rounds), round-played (e .args .sparing) (e .args .disks) (e .args .slots .now) (e .args .blocks) (e .args .disk .now) (e .args .refs .now) (e .args .again .now) (e .args .follow .now) (r .inv .0) (r .rounds) (r .b) (r .residents) (r .look) (r .later) (r .next) (r .fetched) (r .discarded) (r .fetches) (r .sheet) (r .at) (r .inv .1) (i .rounds-test .taken) (a .result) _ _ _ _ _ _ _ _ (a .ensures) (w .ensures .0) (w .ensures .1) (c .tally .ensures))
 
-rounds-less : tie.Need-rounds-less Inv-reading μ-reading Inv-rounds μ-rounds
+rounds-less : tie.Need-rounds-less Inv-loop μ-loop Inv-rounds μ-rounds
 rounds-less c =
     let i = c .before .before .before .before .before .before .before .before .before .before .before .before .before .before .before .before .before .before in
     let r = i .before .rounds in
@@ -92,25 +92,25 @@ rounds-less c =
     let t = i .rounds-test .taken in
     omega (arith, p, t)
 
-rounds-again : tie.Need-rounds-again Inv-reading μ-reading Inv-rounds μ-rounds
+rounds-again : tie.Need-rounds-again Inv-loop μ-loop Inv-rounds μ-rounds
 rounds-again c =
-    let r = c .before .reading in
-    let left = c .reading-test .left in
+    let r = c .before .loop in
+    let left = c .loop-test .left in
     (r .inv .0, reads-end _ _ _ _ _ _ _ _ (r .inv .0) (r .inv .2) (r .inv .1) (r .b) _ _ _ _ _ _ _ _ _ (r .inv .4) (λ due. absurd (omega (arith, due, left))) _ (r .inv .3))
 
-mul-if1 : tie.Need-mul-if1 Inv-reading μ-reading Inv-rounds μ-rounds
-mul-if1 c = (let t = c .reading-test .taken in let few = c .before .reading .inv .0 .fewRefs in omega (arith, t, few))
+mul-if1 : tie.Need-mul-if1 Inv-loop μ-loop Inv-rounds μ-rounds
+mul-if1 c = (let t = c .loop-test .taken in let few = c .before .loop .inv .0 .fewRefs in omega (arith, t, few))
 
-shared-slice-read-if1 : tie.Need-shared-slice-read-if1 Inv-reading μ-reading Inv-rounds μ-rounds
-shared-slice-read-if1 c = c .before .reading-test .taken
+shared-slice-read-if1 : tie.Need-shared-slice-read-if1 Inv-loop μ-loop Inv-rounds μ-rounds
+shared-slice-read-if1 c = c .before .loop-test .taken
 
-cast-if1 : tie.Need-cast-if1 Inv-reading μ-reading Inv-rounds μ-rounds
-cast-if1 c = (let f = below-any 512 (c .before .before .before .before .before .before .before .before .before .before .before .before .before .before .before .before .before .before .before .before .before .before .before .before .args .refs .now) (lit< tt) (c .before .before .reading .inv .0 .small) (c .before .before .reading .b .next) in omega (arith, f))
+cast-if1 : tie.Need-cast-if1 Inv-loop μ-loop Inv-rounds μ-rounds
+cast-if1 c = (let f = below-any 512 (c .before .before .before .before .before .before .before .before .before .before .before .before .before .before .before .before .before .before .before .before .before .before .before .before .args .refs .now) (lit< tt) (c .before .before .loop .inv .0 .small) (c .before .before .loop .b .next) in omega (arith, f))
 
-element-copy-out-if1 : tie.Need-element-copy-out-if1 Inv-reading μ-reading Inv-rounds μ-rounds
-element-copy-out-if1 c = below-any 512 (c .before .before .before .before .before .before .before .before .before .before .before .before .before .before .before .before .before .before .before .before .before .before .before .before .args .refs .now) (lit< tt) (c .before .before .reading .inv .0 .small) (c .before .before .reading .b .next)
+element-copy-out-if1 : tie.Need-element-copy-out-if1 Inv-loop μ-loop Inv-rounds μ-rounds
+element-copy-out-if1 c = below-any 512 (c .before .before .before .before .before .before .before .before .before .before .before .before .before .before .before .before .before .before .before .before .before .before .before .before .args .refs .now) (lit< tt) (c .before .before .loop .inv .0 .small) (c .before .before .loop .b .next)
 
-rounds-less-2 : tie.Need-rounds-less-2 Inv-reading μ-reading Inv-rounds μ-rounds
+rounds-less-2 : tie.Need-rounds-less-2 Inv-loop μ-loop Inv-rounds μ-rounds
 rounds-less-2 c =
     let i = c .before .before .before .before .before .before .before .before .before .before .before .before .before .before .before .before .before .before .before .before .before in
     let r = i .before .rounds in
@@ -119,37 +119,37 @@ rounds-less-2 c =
     let t = i .rounds-test .taken in
     omega (arith, p, t)
 
-rounds-again-2 : tie.Need-rounds-again-2 Inv-reading μ-reading Inv-rounds μ-rounds
+rounds-again-2 : tie.Need-rounds-again-2 Inv-loop μ-loop Inv-rounds μ-rounds
 rounds-again-2 c =
-    let r = c .before .before .before .before .reading in
+    let r = c .before .before .before .before .loop in
     (r .inv .0, reads-end _ _ _ _ _ _ _ _ (r .inv .0) (r .inv .2) (r .inv .1) (r .b) _ _ _ _ _ _ _ _ _ (r .inv .4) (λ due. not-true _ (c .if1 .taken)) _ (r .inv .3))
 
-pass-requires : tie.Need-pass-requires Inv-reading μ-reading Inv-rounds μ-rounds
+pass-requires : tie.Need-pass-requires Inv-loop μ-loop Inv-rounds μ-rounds
 pass-requires c κs =
-    let r = c .before .before .before .before .before .reading in
-    let t = c .before .before .before .before .reading-test .taken in
+    let r = c .before .before .before .before .before .loop in
+    let t = c .before .before .before .before .loop-test .taken in
     let few = r .inv .0 .fewRefs in
     (t, omega (arith, t, few), below-any 512 (c .before .before .before .before .before .before .before .before .before .before .before .before .before .before .before .before .before .before .before .before .before .before .before .before .before .before .before .args .refs .now) (lit< tt) (r .inv .0 .small) (r .b .next))
 
-consume-requires : tie.Need-consume-requires Inv-reading μ-reading Inv-rounds μ-rounds
-consume-requires c κs = (let t = c .before .before .before .before .before .reading-test .taken in let few = c .before .before .before .before .before .before .reading .inv .0 .fewRefs in omega (arith, t, few))
+consume-requires : tie.Need-consume-requires Inv-loop μ-loop Inv-rounds μ-rounds
+consume-requires c κs = (let t = c .before .before .before .before .before .loop-test .taken in let few = c .before .before .before .before .before .before .loop .inv .0 .fewRefs in omega (arith, t, few))
 
-reading-less : tie.Need-reading-less Inv-reading μ-reading Inv-rounds μ-rounds
+loop-less : tie.Need-loop-less Inv-loop μ-loop Inv-rounds μ-rounds
 unfolding consumeOne
-reading-less c = (let n = ap (λ b. b .next) (c .consume .ensures) in let t = c .before .before .before .before .before .before .reading-test .taken in omega (arith, n, t))
+loop-less c = (let n = ap (λ b. b .next) (c .consume .ensures) in let t = c .before .before .before .before .before .before .loop-test .taken in omega (arith, n, t))
 
-reading-again : tie.Need-reading-again Inv-reading μ-reading Inv-rounds μ-rounds
-reading-again c =
-    let r = c .before .before .before .before .before .before .before .reading in
-    (r .inv .0, r .inv .1, r .inv .2, r .inv .3, reads-more _ _ _ _ _ _ _ _ (r .inv .0) (r .inv .2) (r .inv .1) (r .b) _ _ _ _ _ _ _ _ _ (r .inv .4) (c .before .before .before .before .before .before .reading-test .taken) (not-false _ (c .before .before .before .if1 .left)) (c .consume .result) _ (c .consume .ensures) (c .before .pass .ensures))
+loop-again : tie.Need-loop-again Inv-loop μ-loop Inv-rounds μ-rounds
+loop-again c =
+    let r = c .before .before .before .before .before .before .before .loop in
+    (r .inv .0, r .inv .1, r .inv .2, r .inv .3, reads-more _ _ _ _ _ _ _ _ (r .inv .0) (r .inv .2) (r .inv .1) (r .b) _ _ _ _ _ _ _ _ _ (r .inv .4) (c .before .before .before .before .before .before .loop-test .taken) (not-false _ (c .before .before .before .if1 .left)) (c .consume .result) _ (c .consume .ensures) (c .before .pass .ensures))
 
-same-length : tie.Need-same-length Inv-reading μ-reading Inv-rounds μ-rounds
+same-length : tie.Need-same-length Inv-loop μ-loop Inv-rounds μ-rounds
 same-length c =
     let r = c .before .rounds in
     let e = c .before .before .before .before .before in
     between-long (e .args .sparing) (e .args .disks) (e .args .slots .now) (e .args .blocks) (e .args .disk .now) (e .args .refs .now) (e .args .again .now) (e .args .follow .now) (r .inv .0) (r .rounds) (r .b) (r .residents) (r .look) (r .later) (r .next) (r .fetched) (r .discarded) (r .fetches) (r .sheet) (r .at) (r .inv .1) ∙ sym (ap length (e .pre .1 .1) ∙ length-replicate {A = ℕ} 40968 0)
 
-returns : tie.Need-returns Inv-reading μ-reading Inv-rounds μ-rounds
+returns : tie.Need-returns Inv-loop μ-loop Inv-rounds μ-rounds
 returns c =
     let r = c .before .rounds in
     let e = c .before .before .before .before .before in
@@ -159,8 +159,8 @@ pub play-rounds-spec : {M : Type 1} → statement M
 play-rounds-spec =
     tie.close
     (tie.spec
-    Inv-reading
-    μ-reading
+    Inv-loop
+    μ-loop
     Inv-rounds
     μ-rounds
     empty-requires
@@ -169,7 +169,7 @@ play-rounds-spec =
     put-round-requires
     tally-requires
     add-rounds
-    reading-holds
+    loop-holds
     rounds-less
     rounds-again
     mul-if1
@@ -180,7 +180,7 @@ play-rounds-spec =
     rounds-again-2
     pass-requires
     consume-requires
-    reading-less
-    reading-again
+    loop-less
+    loop-again
     same-length
     returns)

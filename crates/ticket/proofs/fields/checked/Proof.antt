@@ -1,10 +1,20 @@
--- `ticket::fields::checked` meets its contract: the two tests are the row's. Assumes nothing.
+-- `ticket::fields::checked` meets its contract: each answer rewrites with the field and the tests that led there. Assumes nothing.
 use borrow.Author.Needs.{needs}
-use mathlib.Core.Path.{sym, _∙_}
+use borrow.Author.Tests.{lt-ltb, le-ltb}
+use mathlib.Core.Bool.{cond}
+use mathlib.Core.Logic.{⊎-elim}
+use mathlib.Core.Path.{_≡_}
 use denote.Ref.{now}
-use Rattle.ticket.proofs.Entries.{entry-ended, entry-low, entry-high, entry-value}
+use Rattle.ticket.specs.Parts.{outside, entryAt}
+use Rattle.ticket.specs.declared.Entry.the-variants.{Value, Refused}
 use Rattle.ticket.proofs.fields.checked.Statement.{statement}
 use Rattle.ticket.proofs.fields.checked.Tie as tie
+
+-- the value v that was read
+read : (c : tie.After-known-told) → let a = c .before .before .before .before .before .args in let v = c .before .v .given .0 .0 in
+    entryAt (now (a .t)) (a .at) (a .row) ≡ cond (outside (a .row) v) (Refused (a .row .number)) (Value v)
+unfolding entryAt
+read c = rw (← c .before .before .before .field .ensures, c .before .v .given .1)
 
 field-requires : tie.Need-field-requires
 field-requires c κs = search needs
@@ -16,32 +26,20 @@ enum-told : tie.Need-enum-told
 enum-told c = search needs
 
 returns : tie.Need-returns
-returns c =
-    let args = c .before .before .before .before .args in
-    sym (entry-ended (now (args .t)) (args .at) (args .row) (sym (c .before .before .field .ensures) ∙ c .enum-told .given .1))
+unfolding entryAt
+returns c = rw (← c .before .before .field .ensures, c .enum-told .given .1)
 
 returns-2 : tie.Need-returns-2
 returns-2 c =
-    let known = c .before .before .before in
-    let args = known .before .before .before .before .args in
-    let value = sym (known .before .before .field .ensures) ∙ known .v .given .1 in
-    sym (entry-low (now (args .t)) (args .at) (args .row) _ value (c .if1 .taken))
+    ⊎-elim
+    (λ w. rw (read (c .before .before), lt-ltb _ _ (w .taken)))
+    (λ w. rw (read (c .before .before), le-ltb _ _ (w .0 .left), w .2 .taken))
+    (c .if1 .came)
 
 returns-3 : tie.Need-returns-3
 returns-3 c =
     let low = c .before .before in
-    let known = low .before .before .before in
-    let args = known .before .before .before .before .args in
-    let value = sym (known .before .before .field .ensures) ∙ known .v .given .1 in
-    sym (entry-high (now (args .t)) (args .at) (args .row) _ value (low .if1 .left) (c .if2 .taken))
-
-returns-4 : tie.Need-returns-4
-returns-4 c =
-    let low = c .before .before in
-    let known = low .before .before .before in
-    let args = known .before .before .before .before .args in
-    let value = sym (known .before .before .field .ensures) ∙ known .v .given .1 in
-    sym (entry-value (now (args .t)) (args .at) (args .row) _ value (low .if1 .left) (c .if2 .left))
+    rw (read (low .before .before), le-ltb _ _ (low .if1 .left), c .if2 .left)
 
 pub checked-spec : {M : Type 1} → statement M
-checked-spec = tie.close (tie.spec field-requires enum-known-v enum-told returns returns-2 returns-3 returns-4)
+checked-spec = tie.close (tie.spec field-requires enum-known-v enum-told returns returns-2 returns-3)

@@ -1,22 +1,18 @@
--- `write_changed` is safe and ends. The measure is the number of bytes left. Assumes nothing.
+-- `write_bytes` is safe and ends. The measure is the number of bytes left. Assumes nothing.
 use borrow.Author.Needs.{needs}
-use native.Mathlib.Omega.{arith}
 use Prim.Native.Nat.{_≤_, _-_}
-use Rattle.cases.proofs.write_changed.Statement.{statement}
-use Rattle.cases.proofs.write_changed.Tie as tie
-use Rattle.cases.proofs.write_changed.Reads as reads
-use Rattle.cases.proofs.write_changed.Lts as lts
-use Rattle.cases.proofs.changed.Reads as changed-reads
+use lib.ListN.{length}
+use Rattle.cases.proofs.write_bytes.Statement.{statement}
+use Rattle.cases.proofs.write_bytes.Tie as tie
+use Rattle.cases.proofs.write_bytes.Reads as reads
+use Rattle.cases.proofs.write_bytes.Lts as lts
 use Rattle.cases.proofs.write_byte.Reads as write-byte-reads
 
 abbrev Inv-loop : tie.InvT-loop
-Inv-loop lent n i₀ i = i ≤ n
+Inv-loop s i₀ i = i ≤ length s
 
 abbrev μ-loop : tie.MeasureT-loop
-μ-loop lent n i₀ i = n - i
-
-changed-requires : tie.Need-changed-requires Inv-loop μ-loop
-changed-requires c κs = search needs
+μ-loop s i₀ i = length s - i
 
 loop-holds : tie.Need-loop-holds Inv-loop μ-loop
 loop-holds c = search needs
@@ -39,13 +35,12 @@ loop-again c = search needs
 returns : tie.Need-returns Inv-loop μ-loop
 returns c = search needs
 
-pub write-changed-spec : {M : Type 1} → statement M
-write-changed-spec =
+pub write-bytes-spec : {M : Type 1} → statement M
+write-bytes-spec =
     tie.close
     (tie.spec
     Inv-loop
     μ-loop
-    changed-requires
     loop-holds
     shared-slice-read-write-byte
     write-byte-requires

@@ -1,0 +1,218 @@
+-- Document 01, "Jobs worked through": the jobs marked P as one table of calls and what each gives, with rows for the order in which the numbers
+-- of a refusal are tested, which no theorem sees. "Cases marked P are proved together as one table over the definitions": each row ends in
+-- the proof that its call gives what it says, by computation. Assumes nothing.
+use mathlib.Core.Path.{_≡_, refl}
+use mathlib.Core.List.{List, [], _∷_}
+use Prim.Native.Nat.{ℕ, zero, suc, _/_, _%_, _^_}
+use Rattle.bits.specs.Reading.{Answer, given, refused, bind, _>>=_, _>>_, give, field, refuseIf, many, isClosed, closing, answer, readAll}
+use Rattle.model.specs.Job.{Job}
+use Rattle.model.specs.Ticket.{slotsField, diskField, refField, ticketReader, ticketOf}
+use Rattle.model.specs.Playing.{noneResident, load, play}
+use Rattle.model.specs.Sheet.{discardReader, fetchReader, actionReader, roundReader, roundsReader, sheetReader, scheduleRead}
+use Rattle.model.specs.Calls.{Counts, Mark, isShort, isSparing, Planned, planAnswer, checkAnswer}
+
+-- The k bytes whose hexadecimal digits are those of v: `hex 2 0x0018` is 00 18.
+unfoldable pub hex : ℕ → ℕ → List ℕ
+hex zero v = []
+hex (suc k) v = (v / 256 ^ k % 256) ∷ hex k v
+
+-- A call, and what a call gives. `planInto` plans a ticket into two buffers of the lengths that it is given, `plan` into two of the longest sheet's
+-- 40,962 bytes.
+pub data Call : Type 0 where
+  read : List ℕ → Call
+  plan : List ℕ → Call
+  planInto : List ℕ → ℕ → ℕ → Call
+  check : List ℕ → List ℕ → Call
+
+pub data Outcome : Type 0 where
+  job : Job → Outcome
+  plans : Planned → Outcome
+  passes : Counts → Outcome
+  number : ℕ → Outcome
+
+outcomeOf : {A : Type 0} → (A → Outcome) → Answer A → Outcome
+outcomeOf f (given a) = f a
+outcomeOf f (refused n) = number n
+
+unfoldable pub outcome : Call → Outcome
+unfolding outcomeOf ticketOf planAnswer checkAnswer
+outcome (read t) = outcomeOf job (ticketOf t)
+outcome (plan t) = outcomeOf plans (planAnswer t 40962 40962)
+outcome (planInto t room₁ room₂) = outcomeOf plans (planAnswer t room₁ room₂)
+outcome (check t s) = outcomeOf passes (checkAnswer t s)
+
+pub record Case : Type 0 where
+  pub call : Call
+  pub gives : Outcome
+  pub holds : outcome call ≡ gives
+
+abbrev row : (c : Call) (o : Outcome) → outcome c ≡ o → Case
+row c o e = record { call = c; gives = o; holds = e }
+
+abbrev jobWith : List ℕ → List ℕ → List ℕ → Outcome
+jobWith slots disks refs = job (record { slots = slots; blockDisks = disks; refs = refs })
+
+-- rounds, and the fetches of disks 0 and 1; the other six disks have none
+abbrev counts : ℕ → ℕ → ℕ → Counts
+counts r a b = record { rounds = r; fetches = a ∷ b ∷ 0 ∷ 0 ∷ 0 ∷ 0 ∷ 0 ∷ 0 ∷ [] }
+
+abbrev planned : Mark → ℕ → Counts → Counts → List ℕ → List ℕ → Outcome
+planned m n a b s t = plans (record { mark = m; partLength = n; short = a; sparing = b; shortSheet = s; sparingSheet = t })
+
+-- the tickets of document 01's jobs
+abbrev ticketA : List ℕ
+ticketA = hex 6 0x102008001000
+
+abbrev ticketB : List ℕ
+ticketB = hex 5 0x1020080000
+
+abbrev ticketC : List ℕ
+ticketC = hex 9 0x102010000600008000
+
+abbrev ticketD : List ℕ
+ticketD = hex 11 0x2020404009004000080601
+
+abbrev ticketE : List ℕ
+ticketE = hex 11 0x20204040090040100c0001
+
+abbrev ticketF : List ℕ
+ticketF = hex 15 0x2020805009200e020180002020200c
+
+abbrev ticketG : List ℕ
+ticketG = hex 32 0x2060c080002490150000404040180002050301c0404028180001010100600008
+
+-- Where two tests that follow each other can both refuse, a row says which one does. These cannot: 1 inside the last reference and 8; 10 and the end
+-- inside the first fetch bit, since a sheet has whole bytes; 11 for a block of B or more and 12, since no such block is ever in a buffer; 13
+-- and 14, since the discard bit selects one of them.
+pub table : List Case
+unfolding hex outcome _>>=_ _>>_ bind give field refuseIf many isClosed closing answer readAll slotsField diskField refField ticketReader ticketOf discardReader fetchReader actionReader roundReader roundsReader sheetReader scheduleRead play load noneResident
+table =
+    -- A: "one disk, one slot, one block, string 0. Both sheets 00 18 00; 1 round; sparing"
+    row (read ticketA) (jobWith (1 ∷ []) (0 ∷ []) (0 ∷ [])) refl ∷
+    row (plan ticketA) (planned isSparing 3 (counts 1 1 0) (counts 1 1 0) (hex 3 0x001800) (hex 3 0x001800)) refl ∷
+    row (check ticketA (hex 3 0x001800)) (passes (counts 1 1 0)) refl ∷
+    -- B: "N = 0. 0 rounds; sheets 00 00; sparing"
+    row (read ticketB) (jobWith (1 ∷ []) (0 ∷ []) []) refl ∷
+    row (plan ticketB) (planned isSparing 2 (counts 0 0 0) (counts 0 0 0) (hex 2 0x0000) (hex 2 0x0000)) refl ∷
+    row (check ticketB (hex 2 0x0000)) (passes (counts 0 0 0)) refl ∷
+    -- C: "1; 1; 0 1 0. 3 rounds, 3 fetches; sparing"
+    row (read ticketC) (jobWith (1 ∷ []) (0 ∷ 0 ∷ []) (0 ∷ 1 ∷ 0 ∷ [])) refl ∷
+    row (plan ticketC) (planned isSparing 8 (counts 3 3 0) (counts 3 3 0) (hex 8 0x00380100c0100402) (hex 8 0x00380100c0100402)) refl ∷
+    -- D: "2; 1 and 1; blocks 0,1 and 2,3; 0 2 3 1. 2 rounds, fetches 2 and 2; sparing"
+    row (read ticketD) (jobWith (1 ∷ 1 ∷ []) (0 ∷ 0 ∷ 1 ∷ 1 ∷ []) (0 ∷ 2 ∷ 3 ∷ 1 ∷ [])) refl ∷
+    row (plan ticketD) (planned isSparing 10 (counts 2 2 2) (counts 2 2 2) (hex 10 0x00280101201802038080) (hex 10 0x00280101201802038080)) refl ∷
+    -- E: "2; 1 and 1; blocks 0,1 and 2,3; 2 3 0 1. 3 rounds, fetches 2 and 2; sparing"
+    row (read ticketE) (jobWith (1 ∷ 1 ∷ []) (0 ∷ 0 ∷ 1 ∷ 1 ∷ []) (2 ∷ 3 ∷ 0 ∷ 1 ∷ [])) refl ∷
+    row (plan ticketE) (planned isSparing 10 (counts 3 2 2) (counts 3 2 2) (hex 10 0x00380101101c0500c000) (hex 10 0x00380101101c0500c000)) refl ∷
+    -- F: "2; 1 and 2; blocks 0,1 and 2,3,4; 2 3 0 1 2 4 3. 4 rounds each; short fetches 2 and 4, sparing 2 and 3; sparing"
+    row (read ticketF) (jobWith (1 ∷ 2 ∷ []) (0 ∷ 0 ∷ 1 ∷ 1 ∷ 1 ∷ []) (2 ∷ 3 ∷ 0 ∷ 1 ∷ 2 ∷ 4 ∷ 3 ∷ [])) refl ∷
+    row (plan ticketF) (planned isSparing 11 (counts 4 2 4) (counts 4 2 3) (hex 14 0x00480101101a018020480d01c080) (hex 11 0x00480101101a0180081202)) refl ∷
+    row (check ticketF (hex 14 0x00480101101a018020480d01c080)) (passes (counts 4 2 4)) refl ∷
+    row (check ticketF (hex 11 0x00480101101a0180081202)) (passes (counts 4 2 3)) refl ∷
+    -- G: "Figure 1 of document 000: 3 slots each, a1..a4 as 0..3, b1..b4 as 4..7. Short 6 rounds, sparing 7; fetches 6 and 5 in both; short"
+    row (read ticketG) (jobWith (3 ∷ 3 ∷ []) (0 ∷ 0 ∷ 0 ∷ 0 ∷ 1 ∷ 1 ∷ 1 ∷ 1 ∷ []) (0 ∷ 1 ∷ 2 ∷ 4 ∷ 3 ∷ 0 ∷ 1 ∷ 5 ∷ 6 ∷ 7 ∷ 2 ∷ 4 ∷ 5 ∷ 6 ∷ 0 ∷ 1 ∷ 2 ∷ 4 ∷ 3 ∷ 0 ∷ 1 ∷ [])) refl ∷
+    row (plan ticketG) (planned isShort 23 (counts 6 6 5) (counts 7 6 5) (hex 23 0x0068010220140a8090320380a078120280e0481e038080) (hex 23 0x0078010220140a809032038090140703c0c81a0780e020)) refl ∷
+    -- H: "A's ticket, sheet 00 00. 15"
+    row (check ticketA (hex 2 0x0000)) (number 15) refl ∷
+    -- K: "Empty ticket; the single byte 00. 1; 2"
+    row (plan []) (number 1) refl ∷
+    row (plan (hex 1 0x00)) (number 2) refl ∷
+    -- L, which a program runs too: "A planned into buffers of 3 and 2 bytes; of 2 and 2. 18; 17". 17 is about the short sheet, of 14 bytes in F,
+    -- and 18 about the sparing one, of 11: exact room, and one byte less for each. The ticket comes before both: A's with a byte more, and no room.
+    row (planInto ticketA 3 2) (number 18) refl ∷
+    row (planInto ticketA 2 2) (number 17) refl ∷
+    row (planInto ticketF 14 11) (planned isSparing 11 (counts 4 2 4) (counts 4 2 3) (hex 14 0x00480101101a018020480d01c080) (hex 11 0x00480101101a0180081202)) refl ∷
+    row (planInto ticketF 13 11) (number 17) refl ∷
+    row (planInto ticketF 14 10) (number 18) refl ∷
+    row (planInto (hex 7 0x10200800100000) 0 0) (number 8) refl ∷
+    row (planInto (hex 7 0x10200800100000) 40962 0) (number 8) refl ∷
+    -- The order of a ticket's refusals. 1 comes before the value of the field in which the ticket ends. With zeros for the bits that are missing,
+    -- it would be 0 and 120 slots; B 0 and 992; disk 6 of 1; N 4080; references 0 and 448 of 1 block. (D 0: the empty ticket of K.)
+    row (plan (hex 1 0x10)) (number 1) refl ∷
+    row (plan (hex 1 0x1f)) (number 1) refl ∷
+    row (plan (hex 2 0x1020)) (number 1) refl ∷
+    row (plan (hex 2 0x103f)) (number 1) refl ∷
+    row (plan (hex 4 0x10202003)) (number 1) refl ∷
+    row (plan (hex 4 0x102008ff)) (number 1) refl ∷
+    row (plan (hex 6 0x102008002000)) (number 1) refl ∷
+    row (plan (hex 6 0x102008002007)) (number 1) refl ∷
+    -- A field's value comes before the end inside the next field: D 9 (D 0: the byte 00 of K); 0 and 65 slots, before the next disk's and before B;
+    -- B 0, before N, and 513, before the disk of block 0 and of block 1; disk 1 of 1, before the next block's and before N; N 2049; reference 1
+    -- of 1 block.
+    row (plan (hex 1 0x90)) (number 2) refl ∷
+    row (plan (hex 2 0x2000)) (number 3) refl ∷
+    row (plan (hex 2 0x2820)) (number 3) refl ∷
+    row (plan (hex 2 0x1000)) (number 3) refl ∷
+    row (plan (hex 2 0x1820)) (number 3) refl ∷
+    row (plan (hex 3 0x102000)) (number 4) refl ∷
+    row (plan (hex 7 0x60204081020601)) (number 4) refl ∷
+    row (plan (hex 3 0x103008)) (number 4) refl ∷
+    row (plan (hex 3 0x102011)) (number 5) refl ∷
+    row (plan (hex 3 0x102009)) (number 5) refl ∷
+    row (plan (hex 5 0x1020088010)) (number 6) refl ∷
+    row (plan (hex 6 0x102008002008)) (number 7) refl ∷
+    -- The last reference, 1 of 1 block, comes before the closing bits 001 and before a byte more: 7, and then 8 for each of the two by itself.
+    row (plan (hex 6 0x102008001009)) (number 7) refl ∷
+    row (plan (hex 7 0x10200800100800)) (number 7) refl ∷
+    row (plan (hex 6 0x102008001001)) (number 8) refl ∷
+    row (plan (hex 7 0x10200800100000)) (number 8) refl ∷
+    -- The ticket comes before the sheet: a ticket for each number with the empty sheet, and the last with a sheet of 2,049 rounds.
+    row (check [] []) (number 1) refl ∷
+    row (check (hex 1 0x00) []) (number 2) refl ∷
+    row (check (hex 2 0x1000) []) (number 3) refl ∷
+    row (check (hex 3 0x102000) []) (number 4) refl ∷
+    row (check (hex 3 0x102009) []) (number 5) refl ∷
+    row (check (hex 5 0x1020088010) []) (number 6) refl ∷
+    row (check (hex 6 0x102008001008) []) (number 7) refl ∷
+    row (check (hex 6 0x102008001001) []) (number 8) refl ∷
+    row (check (hex 6 0x102008001001) (hex 2 0x8010)) (number 8) refl ∷
+    -- The order of a sheet's refusals. 9 comes before the value of the field in which the sheet ends. With zeros for the bits that are missing, it
+    -- would be 0 and 4,080 rounds; fetches of block 448 of 1, with D's ticket of block 0 by disk 1, and of block 0 again; with C's ticket nothing
+    -- discarded though the one slot is taken; a discard of block 0, which is not in the buffer.
+    row (check ticketA []) (number 9) refl ∷
+    row (check ticketA (hex 1 0xff)) (number 9) refl ∷
+    row (check ticketA (hex 2 0x001f)) (number 9) refl ∷
+    row (check ticketD (hex 2 0x0014)) (number 9) refl ∷
+    row (check ticketA (hex 3 0x002801)) (number 9) refl ∷
+    row (check ticketC (hex 5 0x0098000201)) (number 9) refl ∷
+    row (check ticketA (hex 3 0x001802)) (number 9) refl ∷
+    -- R comes before the end inside the rounds: 2,049 rounds, before round 5, and before the block that round 1 fetches.
+    row (check ticketA (hex 2 0x8010)) (number 10) refl ∷
+    row (check ticketA (hex 2 0x8018)) (number 10) refl ∷
+    -- What is fetched comes before the end inside the discard bit: block 1 of 1, with D's ticket block 2 of disk 1 by disk 0, block 0 twice; inside
+    -- the discarded block: block 5 of 1; and inside disk 1's action: block 2 by disk 0 again.
+    row (check ticketA (hex 3 0x003201)) (number 11) refl ∷
+    row (check ticketD (hex 3 0x002202)) (number 11) refl ∷
+    row (check ticketA (hex 5 0x0098000200)) (number 12) refl ∷
+    row (check ticketA (hex 3 0x001816)) (number 11) refl ∷
+    row (check ticketD (hex 3 0x001809)) (number 11) refl ∷
+    -- What is discarded comes before the end inside the next action. Nothing, though the one slot is taken: with C's ticket, before the next round,
+    -- and with D's, before disk 1's action. Block 0, which is not in the buffer: before the next round, and with D's ticket before disk 1's action.
+    row (check ticketC (hex 5 0x0098000402)) (number 13) refl ∷
+    row (check ticketD (hex 7 0x00380080600400)) (number 13) refl ∷
+    row (check ticketA (hex 4 0x00280200)) (number 14) refl ∷
+    row (check ticketD (hex 4 0x00180200)) (number 14) refl ∷
+    -- 11 comes before 12: with D's ticket disk 1 fetches block 0 of disk 0, which is in the buffer there. 12 comes before 13: block 0 is fetched
+    -- twice, and nothing is discarded though the one slot is taken.
+    row (check ticketD (hex 5 0x0018010000)) (number 11) refl ∷
+    row (check ticketA (hex 5 0x0028010000)) (number 12) refl ∷
+    -- 13 and 14 come before 15, with references left after the last action: with D's ticket disk 1 fetches block 3 beside block 2 in its one slot;
+    -- with C's ticket block 0 is discarded from the empty buffer.
+    row (check ticketD (hex 5 0x0024044060)) (number 13) refl ∷
+    row (check ticketC (hex 4 0x00180600)) (number 14) refl ∷
+    -- 9 comes before 15, with the reference left: the sheet ends where round 5 is due, and inside the block that round 2 fetches.
+    row (check ticketA (hex 2 0x0050)) (number 9) refl ∷
+    row (check ticketA (hex 2 0x0024)) (number 9) refl ∷
+    -- 15 comes before 16: the reference is left, with the closing bits 0001 and with a byte more: 15, and then 16 for each of the two by itself.
+    row (check ticketA (hex 2 0x0001)) (number 15) refl ∷
+    row (check ticketA (hex 3 0x000000)) (number 15) refl ∷
+    row (check ticketA (hex 3 0x001801)) (number 16) refl ∷
+    row (check ticketA (hex 4 0x00180000)) (number 16) refl ∷
+    -- The other cases of 11, 13 and 14: with D's ticket disk 0 fetches block 2 of disk 1; with C's ticket block 1 is fetched beside block 0 in the
+    -- one slot; the fetched block is itself discarded; with D's ticket disk 0 discards block 2, which is in the buffer of disk 1, and block 9 of 4.
+    row (check ticketD (hex 3 0x001808)) (number 11) refl ∷
+    row (check ticketC (hex 5 0x0038010080)) (number 13) refl ∷
+    row (check ticketA (hex 4 0x00180200)) (number 14) refl ∷
+    row (check ticketD (hex 7 0x00380101201808)) (number 14) refl ∷
+    row (check ticketD (hex 7 0x00380101201824)) (number 14) refl ∷
+    []

@@ -1,0 +1,99 @@
+-- Demand 1: each of a call's numbers in document 01 is given for some bytes, and what a refused call returns and writes. Assumes nothing.
+use mathlib.Core.Path.{_≡_, refl, sym, subst}
+use mathlib.Core.Logic.{_↔_}
+use mathlib.Core.Bool.{true}
+use mathlib.Core.List.{List, [], _∷_}
+use mathlib.Core.Option.{none}
+use Prim.Native.Nat.{ℕ}
+use lib.Dec.{eqb}
+use borrow.Author.Tests.{eqb-true}
+use Rattle.bits.specs.Reading.{refused, bind, _>>=_, _>>_, give, field, refuseIf, many, isClosed, closing, answer, readAll}
+use Rattle.bits.proofs.Logic.{by-test, clash, getD-same}
+use Rattle.model.specs.Ticket.{slotsField, diskField, refField, ticketReader, ticketOf}
+use Rattle.model.specs.Playing.{noneResident, start, load, play}
+use Rattle.model.specs.Plans.{each}
+use Rattle.model.specs.Sheet.{discardReader, fetchReader, actionReader, roundReader, roundsReader, sheetReader, scheduleRead}
+use Rattle.model.specs.Calls.{noCounts, AllZero, planAnswer, written, shortAfter, sparingAfter, returned, partAfter, checkAnswer, countsGiven, checkRefusals, planRefusals, among, countsNumbers, planningNumbers, countsWritten}
+use Rattle.model.proofs.Numbers.{check-number, plan-number}
+use Rattle.model.proofs.Answers.{hex}
+
+infixr 5 _⊳_
+-- Something for each number of a list.
+data All (Q : ℕ → Type 0) : List ℕ → Type 0 where
+  end : All Q []
+  _⊳_ : {n : ℕ} {more : List ℕ} → Q n → All Q more → All Q (n ∷ more)
+
+all-among : {Q : ℕ → Type 0} {l : List ℕ} → All Q l → (n : ℕ) → among n l ≡ true → Q n
+unfolding among
+all-among end n e = clash e refl
+all-among {Q} (_⊳_ {n = m} q more) n e =
+    by-test (eqb n m)
+    (λ y. subst Q (sym (eqb-true n m y)) q)
+    (λ y. all-among more n (rw y at e))
+
+-- bytes for which a check is refused with n, and bytes and rooms for which a planning call is
+abbrev pub CheckRefused : ℕ → Type 0
+CheckRefused n = (t : List ℕ) × (s : List ℕ) × (checkAnswer t s ≡ refused n)
+
+abbrev pub PlanRefused : ℕ → Type 0
+PlanRefused n = (t : List ℕ) × (room₁ : ℕ) × (room₂ : ℕ) × (planAnswer t room₁ room₂ ≡ refused n)
+
+checks : All CheckRefused checkRefusals
+unfolding each hex checkAnswer _>>=_ _>>_ bind give field refuseIf many isClosed closing answer readAll slotsField diskField refField ticketReader ticketOf discardReader fetchReader actionReader roundReader roundsReader sheetReader scheduleRead play load noneResident start
+checks =
+    ([], [], refl) ⊳
+    (hex 1 0x00, [], refl) ⊳
+    (hex 2 0x1000, [], refl) ⊳
+    (hex 3 0x102000, [], refl) ⊳
+    (hex 3 0x102009, [], refl) ⊳
+    (hex 5 0x1020088010, [], refl) ⊳
+    (hex 6 0x102008002008, [], refl) ⊳
+    (hex 6 0x102008001001, [], refl) ⊳
+    (hex 6 0x102008001000, [], refl) ⊳
+    (hex 6 0x102008001000, hex 2 0x8010, refl) ⊳
+    (hex 6 0x102008001000, hex 3 0x001816, refl) ⊳
+    (hex 6 0x102008001000, hex 5 0x0028010000, refl) ⊳
+    (hex 9 0x102010000600008000, hex 5 0x0038010080, refl) ⊳
+    (hex 6 0x102008001000, hex 4 0x00180200, refl) ⊳
+    (hex 6 0x102008001000, hex 2 0x0000, refl) ⊳
+    (hex 6 0x102008001000, hex 3 0x001801, refl) ⊳
+    end
+
+plans : All PlanRefused planRefusals
+unfolding each hex planAnswer _>>=_ _>>_ bind give field refuseIf many isClosed closing answer readAll slotsField diskField refField ticketReader ticketOf load noneResident
+plans =
+    ([], 0, 0, refl) ⊳
+    (hex 1 0x00, 0, 0, refl) ⊳
+    (hex 2 0x1000, 0, 0, refl) ⊳
+    (hex 3 0x102000, 0, 0, refl) ⊳
+    (hex 3 0x102009, 0, 0, refl) ⊳
+    (hex 5 0x1020088010, 0, 0, refl) ⊳
+    (hex 6 0x102008002008, 0, 0, refl) ⊳
+    (hex 6 0x102008001001, 0, 0, refl) ⊳
+    (hex 6 0x102008001000, 2, 2, refl) ⊳
+    (hex 6 0x102008001000, 3, 2, refl) ⊳
+    end
+
+pub check-numbers : (n : ℕ) → (among n checkRefusals ≡ true) ↔ CheckRefused n
+check-numbers n = (all-among checks n, λ w. check-number (w .0) (w .1) n (w .2))
+
+pub plan-numbers : (n : ℕ) → (among n planRefusals ≡ true) ↔ PlanRefused n
+plan-numbers n = (all-among plans n, λ w. plan-number (w .0) (w .1) (w .2) n (w .3))
+
+-- "all counts 0"
+
+all-zero : AllZero noCounts
+all-zero = (refl, λ d. getD-same 8 d 0)
+
+pub check-refused : (n : ℕ) (lent : List ℕ) → AllZero (countsGiven (refused n)) × (countsWritten countsNumbers (refused n) lent ≡ lent)
+unfolding countsWritten
+check-refused n lent = (all-zero, refl)
+
+pub plan-refused : (n : ℕ) (lent other : List ℕ)
+    → (let r = returned (refused n) in (r .number ≡ n) × (r .mark ≡ none) × (r .partLength ≡ 0) × AllZero (r .short) × AllZero (r .sparing))
+    × (partAfter (refused n) lent other ≡ [])
+    × (shortAfter (refused n) lent ≡ lent)
+    × (sparingAfter (refused n) lent ≡ lent)
+    × (countsWritten planningNumbers (refused n) lent ≡ lent)
+unfolding returned partAfter written countsWritten
+plan-refused n lent other = ((refl, refl, refl, all-zero, all-zero), refl, refl, refl, refl)
