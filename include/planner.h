@@ -14,7 +14,7 @@
  * Rules for planner_plan and planner_check:
  *   - Each slice is a pointer and a length in bytes. A pointer may be null only with the length 0.
  *   - Slices that a call writes must not overlap each other or any other slice of the call.
- *   - The calls keep nothing, allocate nothing, and may be made from several threads at once. A planning call takes some 140 KB of stack,
+ *   - The calls keep nothing, allocate nothing, and may be made from several threads at once. A planning call takes some 160 KB of stack,
  *     a check some 16 KB (measured; bench/ has the figures).
  *   - A call returns 0, or the number of its refusal (enum planner_number). A refused call changes no lent byte.
  */

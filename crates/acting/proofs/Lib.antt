@@ -1,3 +1,1 @@
-mod Stepping
-pub mod Acted
-mod Facing
+pub mod AfterChoice

@@ -1,53 +1,53 @@
--- One round's actions: what the planner's tables say after the disks below d have acted. Assumes nothing.
-use mathlib.Core.Path.{_≡_}
-use mathlib.Core.Bool.{Bool, cond}
-use mathlib.Core.List.{List, map}
-use Prim.Native.Nat.{ℕ, _≤_, _<_}
-use lib.ListN.{length, getD, take}
-use Rattle.model.specs.Job.{Job, Sound}
-use Rattle.model.specs.Playing.{State, actAll}
-use Rattle.model.specs.Rules.{Rule, action, short, sparing}
-use Rattle.model.specs.Plans.{choices}
-use Rattle.lookup.specs.Lookup.{Below}
-use Rattle.playing.specs.Playing.{Holds}
-use Rattle.playing.specs.declared.Buffers.{Buffers}
-use Rattle.choosing.specs.Right.{Right}
-use Rattle.choosing.specs.Moving.{Ahead, Forward}
-use Rattle.writing.specs.Writing.{actionOf}
+-- What one disk's action changes: the round's actions, and the desk. Assumes nothing.
+use mathlib.Core.Bool.{Bool}
+use mathlib.Core.List.{List}
+use Prim.Native.Nat.{ℕ, _<_}
+use Rattle.lookup.specs.Desk.{HELD, cell, withCell}
+use Rattle.choosing.specs.Moving.{movedOn}
+use Rattle.writing.specs.Writing.{FETCHED, DISCARDED, REASON}
+use Rattle.choosing.specs.declared.Choice.{Choice}
+use Rattle.choosing.specs.declared.Choice.the-variants.{IntoEmpty, OverMinBlock, MinBlockSooner, Waits, NoneMissing}
 
--- the job and the state that a function's arguments say
-abbrev pub jobWith : ℕ → List ℕ → ℕ → List ℕ → List ℕ → Job
-jobWith disks slots blocks disk refs = record { slots = take disks slots; blockDisks = take blocks disk; refs = refs }
+-- A choice that names a block of the 512 and a place of the 512.
+abbrev pub Small : Choice → Type 0
+Small (IntoEmpty u place) = (u < 512) × (place < 512)
+Small (OverMinBlock u place) = (u < 512) × (place < 512)
+Small MinBlockSooner = Unit {0}
+Small Waits = Unit {0}
+Small NoneMissing = Unit {0}
 
-abbrev pub stateOf : Buffers → ℕ → State
-stateOf b round = record { resident = b .resident; next = b .next; round = round }
+-- The block that a choice fetches, and the one that it discards; 512 is no block.
+abbrev pub fetchNoted : Choice → ℕ
+fetchNoted (IntoEmpty u place) = u
+fetchNoted (OverMinBlock u place) = u
+fetchNoted MinBlockSooner = 512
+fetchNoted Waits = 512
+fetchNoted NoneMissing = 512
 
-abbrev pub ruleOf : Bool → Rule
-ruleOf spares j s d = cond spares (sparing j s d) (short j s d)
+abbrev pub discardNoted : List (List ℕ) → Choice → ℕ
+discardNoted desk (IntoEmpty u place) = 512
+discardNoted desk (OverMinBlock u place) = cell desk HELD place
+discardNoted desk MinBlockSooner = 512
+discardNoted desk Waits = 512
+discardNoted desk NoneMissing = 512
 
--- The state after the actions of the disks below d.
-unfoldable pub midState : Rule → Job → State → ℕ → State
-unfolding actAll choices
-midState rule j s d = record { resident = actAll (s .resident) (take d (map action (choices rule j s))); next = s .next; round = s .round }
+-- The reason: an empty slot, over the min-block, the min-block is sooner, waits, none is missing. Request L2 will print the letters E, M, S, W, N.
+abbrev pub reasonOf : Choice → ℕ
+reasonOf (IntoEmpty u place) = 0
+reasonOf (OverMinBlock u place) = 1
+reasonOf MinBlockSooner = 2
+reasonOf Waits = 3
+reasonOf NoneMissing = 4
 
--- What no action changes.
-pub record Setting (j : Job) (disks : ℕ) (slots : List ℕ) (blocks : ℕ) (refs again follow : List ℕ) : Type 0 where
-  pub sound : Sound j
-  pub forward : Forward j again follow
-  pub fewDisks : disks ≤ 8
-  pub longSlots : length slots ≡ 8
-  pub fewRefs : length refs ≤ 2048
-  pub small : Below 512 refs
-  pub ahead : Ahead (length refs) follow
-  pub started : blocks ≤ 512
+-- A round's actions with another column for disk d,
+abbrev pub column : List (List ℕ) → ℕ → ℕ → ℕ → ℕ → List (List ℕ)
+column acts d fetched discarded reason = withCell (withCell (withCell acts FETCHED d fetched) DISCARDED d discarded) REASON d reason
 
--- The tables, and the actions so far, after the disks below d have acted.
-pub record AtDisk (rule : Rule) (j : Job) (s : State) (d : ℕ) (b : Buffers) (residents look later next fetched discarded : List ℕ) : Type 0 where
-  pub holds : Holds j b (midState rule j s d)
-  pub right : Right j (midState rule j s d) residents look later next
-  pub small : Below 512 residents
-  pub chosen : (e : ℕ) → e < d → actionOf (getD fetched e 0) (getD discarded e 0) ≡ action (rule j s e)
-  pub longFetched : length fetched ≡ 8
-  pub longDiscarded : length discarded ≡ 8
-  pub smallFetched : Below 513 fetched
-  pub smallDiscarded : Below 513 discarded
+-- that of its choice.
+unfoldable pub noted : ℕ → Choice → List (List ℕ) → List (List ℕ) → List (List ℕ)
+noted d c desk acts = column acts d (fetchNoted c) (discardNoted desk c) (reasonOf c)
+
+-- Block u stands at a place among the residents of disk d, and the disk's pointer moves on.
+unfoldable pub takenIn : List ℕ → List Bool → List (List ℕ) → ℕ → ℕ → ℕ → List (List ℕ) → List (List ℕ)
+unfolding movedOn
+takenIn refs resident steps d u place desk = movedOn refs resident steps d (withCell desk HELD place u)

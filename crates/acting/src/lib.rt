@@ -1,127 +1,60 @@
-// One round's actions, disk by disk.
+// What one disk's action changes: the round's actions, and the desk.
 use choosing::Choice;
-use lookup::Agains;
-use lookup::Firsts;
-use lookup::Heads;
-use playing::Buffers;
+use lookup::Desk;
+use lookup::Steps;
+use writing::Actions;
 ghost use mathlib.Core.Path.{_≡_};
-ghost use Prim.Native.Nat.{_+_, _*_, _≤_, _<_};
-ghost use lib.ListN.{length, getD, set};
+ghost use Prim.Native.Nat.{_≤_, _<_};
+ghost use lib.ListN.{length, getD};
 ghost use Rattle.lookup.specs.Lookup.{Below};
-ghost use Rattle.playing.specs.Playing.{fetchInto, replaceIn};
-ghost use Rattle.choosing.specs.Moving.{Ahead, Advanced};
-ghost use Rattle.model.specs.Valid.{Ready};
-ghost use Rattle.acting.specs.Acting.{jobWith, stateOf, ruleOf, Setting, AtDisk};
+ghost use Rattle.lookup.specs.Desk.{helds, looks, ofDisk};
+ghost use Rattle.choosing.specs.Moving.{Ahead};
+ghost use Rattle.acting.specs.Acting.{Small, column, noted, takenIn};
 
-// Block u enters an empty slot of disk d, and the disk's pointer moves on.
-fn enter(
-    buffers: Buffers,
-    d: usize,
-    u: usize,
-    refs: &[u16],
-    again: &Agains,
-    follow: &Agains,
-    later: &mut Firsts,
-    look: &mut Heads,
-    residents: &mut [u16; 512],
-) -> Buffers
-    requires { ⌜ (d < 8) × (u < 512) × (getD (buffers .held) d 0 < 64) × (getD (now look) d 0 ≤ length (now refs)) × (length (now look) ≡ 8) ⌝ }
-    requires { ⌜ (length (now refs) ≤ 2048) × Below 512 (now refs) × Ahead (length (now refs)) (now follow) ⌝ }
-    ensures { λ r. ⌜ r ≡ fetchInto buffers u d ⌝ }
-    ensures { λ r. ⌜ now (residents .exit) ≡ set (now (residents .entry)) (d * 64 + getD (buffers .held) d 0) u ⌝ }
-    ensures { λ r. ⌜ Advanced (now (refs .entry)) (r .resident) (now (again .entry)) (now (follow .entry)) (now (later .entry)) (now (look .entry)) d (now (later .exit)) (now (look .exit)) ⌝ }
+// Writes a disk's column of a round's actions.
+fn write(acts: &mut Actions, d: usize, fetched: usize, discarded: usize, reason: usize)
+    requires { ⌜ (d < 8) × (fetched ≤ 512) × (discarded ≤ 512) × (reason ≤ 4) ⌝ }
+    ensures { λ _. ⌜ now (acts .exit) ≡ column (now (acts .entry)) d fetched discarded reason ⌝ }
 {
-    let count = buffers.held[d] as usize;
-    residents[d * 64 + count] = u as u16;
-    let b = buffers.fetch(u, d);
-    choosing::moving::move_on(d, refs, &b.resident, again, follow, later, look);
-    b
+    acts[writing::FETCHED][d] = fetched as u16;
+    acts[writing::DISCARDED][d] = discarded as u16;
+    acts[writing::REASON][d] = reason as u16;
 }
 
-// Block u takes the place of the block at `place` among the residents of disk d, and the disk's pointer moves on.
-fn swap_in(
-    buffers: Buffers,
+// What disk d does in the round, and why. The number 512 stands for no block.
+pub fn note(d: usize, c: Choice, desk: &Desk, acts: &mut Actions)
+    requires { ⌜ (d < 8) × Small c × Below 512 (helds (now desk)) ⌝ }
+    ensures { λ _. ⌜ now (acts .exit) ≡ noted d c (now (desk .entry)) (now (acts .entry)) ⌝ }
+{
+    match c {
+        Choice::IntoEmpty(u, _) => write(acts, d, u, 512, 0),
+        Choice::OverMinBlock(u, place) => write(
+            acts,
+            d,
+            u,
+            lookup::at(desk, lookup::HELD, place),
+            1,
+        ),
+        Choice::MinBlockSooner => write(acts, d, 512, 512, 2),
+        Choice::Waits => write(acts, d, 512, 512, 3),
+        Choice::NoneMissing => write(acts, d, 512, 512, 4),
+    }
+}
+
+// Block u enters the buffer of disk d, at a place among its residents, and the disk's pointer moves on.
+pub fn take_in(
     d: usize,
     u: usize,
     place: usize,
     refs: &[u16],
-    again: &Agains,
-    follow: &Agains,
-    later: &mut Firsts,
-    look: &mut Heads,
-    residents: &mut [u16; 512],
-) -> Buffers
-    requires { ⌜ (d < 8) × (u < 512) × (place < 512) × (getD (now residents) place 0 < 512) × (1 ≤ getD (buffers .held) d 0) ⌝ }
-    requires { ⌜ (getD (now look) d 0 ≤ length (now refs)) × (length (now look) ≡ 8) ⌝ }
-    requires { ⌜ (length (now refs) ≤ 2048) × Below 512 (now refs) × Ahead (length (now refs)) (now follow) ⌝ }
-    ensures { λ r. ⌜ r ≡ replaceIn buffers (getD (now (residents .entry)) place 0) u d ⌝ }
-    ensures { λ r. ⌜ now (residents .exit) ≡ set (now (residents .entry)) place u ⌝ }
-    ensures { λ r. ⌜ Advanced (now (refs .entry)) (r .resident) (now (again .entry)) (now (follow .entry)) (now (later .entry)) (now (look .entry)) d (now (later .exit)) (now (look .exit)) ⌝ }
+    resident: &[bool; 512],
+    steps: &Steps,
+    desk: &mut Desk,
+)
+    requires { ⌜ (d < 8) × (u < 512) × (place < 512) × (getD (looks (now desk)) d 0 ≤ length (now refs)) ⌝ }
+    requires { ⌜ (length (now refs) ≤ 2048) × Below 512 (now refs) × Ahead (length (now refs)) (ofDisk (now steps)) ⌝ }
+    ensures { λ _. ⌜ now (desk .exit) ≡ takenIn (now (refs .entry)) (now (resident .entry)) (now (steps .entry)) d u place (now (desk .entry)) ⌝ }
 {
-    let v = residents[place] as usize;
-    residents[place] = u as u16;
-    let b = buffers.replace(v, u, d);
-    choosing::moving::move_on(d, refs, &b.resident, again, follow, later, look);
-    b
-}
-
-// All disks act, in order: what each fetched and discarded, 512 for no block. (The round, the number of blocks and their disks are named for the
-// contract only.)
-pub fn act_all(
-    buffers: Buffers,
-    round: usize,
-    disks: usize,
-    slots: &[u16; 8],
-    blocks: usize,
-    disk: &[u16; 512],
-    refs: &[u16],
-    sparing: bool,
-    again: &Agains,
-    follow: &Agains,
-    next: &Firsts,
-    later: &mut Firsts,
-    look: &mut Heads,
-    residents: &mut [u16; 512],
-    fetched: &mut [u16; 8],
-    discarded: &mut [u16; 8],
-) -> Buffers
-    requires { ⌜ Setting (jobWith disks (now slots) blocks (now disk) (now refs)) disks (now slots) blocks (now refs) (now again) (now follow) ⌝ }
-    requires { ⌜ Ready (jobWith disks (now slots) blocks (now disk) (now refs)) (stateOf buffers round) ⌝ }
-    requires { ⌜ AtDisk (ruleOf sparing) (jobWith disks (now slots) blocks (now disk) (now refs)) (stateOf buffers round) 0 buffers (now residents) (now look) (now later) (now next) (now fetched) (now discarded) ⌝ }
-    ensures { λ r. ⌜ AtDisk (ruleOf sparing) (jobWith disks (now (slots .entry)) blocks (now (disk .entry)) (now (refs .entry))) (stateOf buffers round) disks r (now (residents .exit)) (now (look .exit)) (now (later .exit)) (now (next .entry)) (now (fetched .exit)) (now (discarded .exit)) ⌝ }
-{
-    let mut b = buffers;
-    let mut d = 0;
-    while d < disks {
-        let count = b.held[d] as usize;
-        let c = choosing::choose(
-            refs,
-            lookup::head_of(look, d),
-            residents,
-            d * 64,
-            count,
-            slots[d] as usize,
-            next,
-            later,
-            sparing,
-        );
-        match c {
-            Choice::IntoEmpty(u) => {
-                fetched[d] = u as u16;
-                discarded[d] = 512;
-                b = enter(b, d, u, refs, again, follow, later, look, residents);
-            }
-            Choice::OverMinBlock(u, place) => {
-                fetched[d] = u as u16;
-                discarded[d] = residents[place];
-                b = swap_in(b, d, u, place, refs, again, follow, later, look, residents);
-            }
-            Choice::MinBlockSooner | Choice::Waits | Choice::NoneMissing => {
-                fetched[d] = 512;
-                discarded[d] = 512;
-            }
-        }
-        d += 1;
-    }
-    b
+    lookup::put(desk, lookup::HELD, place, u);
+    choosing::moving::move_on(d, refs, resident, steps, desk);
 }

@@ -1,6 +1,6 @@
--- What is chosen from right tables is what the model's rule chooses, and it names a place among the disk's residents. Assumes nothing.
+-- What is chosen from a right desk is what the model's rule chooses; its place is the first empty slot, or that of a resident. Assumes nothing.
 use mathlib.Core.Path.{_≡_, refl, sym, ap, subst, _∙_}
-use mathlib.Core.Bool.{Bool, true, false, cond, _&&_}
+use mathlib.Core.Bool.{Bool, true, false, cond}
 use mathlib.Core.List.{List}
 use mathlib.Core.Option.{Option, none, some}
 use Prim.Native.Nat.{ℕ, _+_, _-_, _*_, _≤_, _<_}
@@ -18,55 +18,74 @@ use Rattle.model.specs.Rules.{Choice as RuleChoice}
 use Rattle.model.specs.Valid.{Block}
 use Rattle.model.proofs.Distances.{distance-before, distance-same, distance-one}
 use Rattle.model.proofs.Choosing.{NearestView, noneDue, nearest, nearest-view, LastView, empty, last, last-view, no-later, one-later}
-use Rattle.choosing.specs.Choosing.{lastPlace, someBeyond, chooseFrom, meaning}
-use Rattle.choosing.specs.Right.{DiskRight}
+use Rattle.lookup.specs.Desk.{nexts, laters, helds, looks}
+use Rattle.choosing.specs.Choosing.{lastPlace, someBeyond, alsoIdle, chooseFrom, ruleOf, meaning}
+use Rattle.choosing.specs.declared.Rule.{Rule}
+use Rattle.choosing.specs.declared.Rule.the-variants.{Short, Sparing}
 use Rattle.choosing.specs.declared.Choice.{Choice}
 use Rattle.choosing.specs.declared.Choice.the-variants.{IntoEmpty, OverMinBlock, MinBlockSooner, Waits, NoneMissing}
+use Rattle.choosing.proofs.Right.{DiskRight}
 use Rattle.choosing.proofs.Scanning.{last-within, last-most, beyond-none, beyond-some}
 
 -- What is chosen, and the tests that led to it. The last of the residents is referenced at `far`.
-module _ (refs : List ℕ) (look : ℕ) (residents : List ℕ) (base count slots : ℕ) (next later : List ℕ) (spares : Bool) where
+module _ (refs : List ℕ) (rule : Rule) (d count slots : ℕ) (desk : List (List ℕ)) where
+  abbrev lookOf : ℕ
+  lookOf = getD (looks desk) d 0
+
   abbrev lastOf : ℕ
-  lastOf = lastPlace residents next base (count - 1)
+  lastOf = lastPlace (helds desk) (nexts desk) (d * 64) (count - 1)
 
   abbrev far : ℕ
-  far = getD next (getD residents lastOf 0) 0
+  far = getD (nexts desk) (getD (helds desk) lastOf 0) 0
+
+  abbrev idles : Bool
+  idles = alsoIdle rule (someBeyond (helds desk) (laters desk) far (d * 64) count)
 
   data Tested : Choice → Type 0 where
-    atEnd : length refs ≤ look → Tested NoneMissing
-    room : look < length refs → count < slots → Tested (IntoEmpty (getD refs look 0))
-    before : look < length refs → slots ≤ count → far < look → Tested MinBlockSooner
-    beyond : look < length refs → slots ≤ count → look ≤ far → spares && someBeyond residents later far base count ≡ true → Tested Waits
-    after : look < length refs → slots ≤ count → look ≤ far → spares && someBeyond residents later far base count ≡ false
-        → Tested (OverMinBlock (getD refs look 0) lastOf)
+    atEnd : length refs ≤ lookOf → Tested NoneMissing
+    room : lookOf < length refs → count < slots → Tested (IntoEmpty (getD refs lookOf 0) (d * 64 + count))
+    before : lookOf < length refs → slots ≤ count → far < lookOf → Tested MinBlockSooner
+    beyond : lookOf < length refs → slots ≤ count → lookOf ≤ far → idles ≡ true → Tested Waits
+    after : lookOf < length refs → slots ≤ count → lookOf ≤ far → idles ≡ false → Tested (OverMinBlock (getD refs lookOf 0) lastOf)
 
-  tested : Tested (chooseFrom refs look residents base count slots next later spares)
+  tested : Tested (chooseFrom refs rule d count slots desk)
   unfolding chooseFrom
   tested =
-      by-test (leb (length refs) look)
+      by-test (leb (length refs) lookOf)
       (λ e. rw e (atEnd (leb-true _ _ e)))
-      (λ e. let l = leb-false (length refs) look e in
+      (λ e. let l = leb-false (length refs) lookOf e in
       by-test (ltb count slots)
       (λ f. rw (e, f) (room l (ltb-true _ _ f)))
       (λ f. let full = ltb-false count slots f in
-      by-test (ltb far look)
+      by-test (ltb far lookOf)
       (λ g. rw (e, f, g) (before l full (ltb-true _ _ g)))
-      (λ g. let k = ltb-false far look g in
-      by-test (spares && someBeyond residents later far base count)
+      (λ g. let k = ltb-false far lookOf g in
+      by-test idles
       (λ y. rw (e, f, g, y) (beyond l full k y))
       (λ y. rw (e, f, g, y) (after l full k y)))))
 
 -- A disk of a job for which a rule chooses: its tables are right in the state, and so are the numbers of its residents and its slots.
-pub record Chooses (j : Job) (s : State) (d : ℕ) (residents : List ℕ) (look : ℕ) (later next : List ℕ) (count slots : ℕ) : Type 0 where
+pub record Chooses (j : Job) (s : State) (d : ℕ) (desk : List (List ℕ)) (count slots : ℕ) : Type 0 where
   pub sound : Sound j
   pub known : d < diskCount j
-  pub right : DiskRight j (s .resident) (s .next) d residents look later
-  pub nexts : (b : ℕ) → b < 512 → getD next b 0 ≡ distance (j .refs) (s .next) b
+  pub right : DiskRight j (s .resident) (s .next) d (helds desk) (getD (looks desk) d 0) (laters desk)
+  pub distances : (b : ℕ) → b < 512 → getD (nexts desk) b 0 ≡ distance (j .refs) (s .next) b
   pub counted : count ≡ load j (s .resident) d
   pub slotted : slots ≡ slotsOf j d
 
-module _ {j : Job} {s : State} {d : ℕ} {residents : List ℕ} {look : ℕ} {later next : List ℕ} {count slots : ℕ}
-    (h : Chooses j s d residents look later next count slots) where
+module _ {j : Job} {s : State} {d : ℕ} {desk : List (List ℕ)} {count slots : ℕ} (h : Chooses j s d desk count slots) where
+  abbrev look : ℕ
+  look = getD (looks desk) d 0
+
+  abbrev residents : List ℕ
+  residents = helds desk
+
+  abbrev next : List ℕ
+  next = nexts desk
+
+  abbrev later : List ℕ
+  later = laters desk
+
   -- U is the block of the first missing reference, if there is one.
   none-due : refCount j ≤ look → nearestMissing j s d ≡ none
   none-due l = step (nearestMissing j s d) (nearest-view j s d)
@@ -123,7 +142,7 @@ module _ {j : Job} {s : State} {d : ℕ} {residents : List ℕ} {look : ℕ} {la
       let l = k .known in
       let few = h .sound .fewBlocks in
       let small : b < 512 = omega (arith, l, few) in
-      (small, h .nexts b small)
+      (small, h .distances b small)
 
   some-resident : slots ≤ count → 1 ≤ count
   some-resident f = let e = h .slotted in let o = h .sound .someSlot d (h .known) in omega (arith, e, o)
@@ -237,57 +256,47 @@ module _ {j : Job} {s : State} {d : ℕ} {residents : List ℕ} {look : ℕ} {la
       short-full l f ∙ rw (le-ltb (distanceNow j s v) (distanceNow j s (refAt j look)) (omega (arith, n, e)))
 
   -- and the rule that is asked for.
-  ruled : (spares : Bool) (c : RuleChoice) → short j s d ≡ c → cond spares (unlessLater j s d c) c ≡ cond spares (sparing j s d) (short j s d)
+  always : (rule : Rule) (c : RuleChoice) → short j s d ≡ c → unlessLater j s d c ≡ c → c ≡ ruleOf rule j s d
   unfolding sparing
-  ruled true c e = ap (unlessLater j s d) (sym e)
-  ruled false c e = sym e
+  always Short c e k = sym e
+  always Sparing c e k = sym k ∙ ap (unlessLater j s d) (sym e)
 
-  always : (spares : Bool) (c : RuleChoice) → short j s d ≡ c → unlessLater j s d c ≡ c → c ≡ cond spares (sparing j s d) (short j s d)
-  always true c e k = sym k ∙ ruled true c e
-  always false c e k = ruled false c e
-
-  over-ruled : (spares : Bool) (u w : ℕ) → short j s d ≡ overMinBlock u w
-      → cond (spares && someLater j s d u w) waits (overMinBlock u w) ≡ cond spares (sparing j s d) (short j s d)
-  unfolding unlessLater
-  over-ruled true u w e = ruled true (overMinBlock u w) e
-  over-ruled false u w e = ruled false (overMinBlock u w) e
+  over-ruled : (rule : Rule) (u w : ℕ) → short j s d ≡ overMinBlock u w
+      → cond (alsoIdle rule (someLater j s d u w)) waits (overMinBlock u w) ≡ ruleOf rule j s d
+  unfolding unlessLater sparing
+  over-ruled Short u w e = sym e
+  over-ruled Sparing u w e = ap (unlessLater j s d) (sym e)
 
   -- What is chosen from the tables is what the rule chooses,
-  pub choose-is : (spares : Bool)
-      → meaning residents (chooseFrom (j .refs) look residents (d * 64) count slots next later spares) ≡ cond spares (sparing j s d) (short j s d)
+  pub choose-is : (rule : Rule) → meaning residents (chooseFrom (j .refs) rule d count slots desk) ≡ ruleOf rule j s d
   unfolding unlessLater
-  choose-is spares = step _ (tested (j .refs) look residents (d * 64) count slots next later spares)
+  choose-is rule = step _ (tested (j .refs) rule d count slots desk)
     where
-      step : (c : Choice) → Tested (j .refs) look residents (d * 64) count slots next later spares c
-          → meaning residents c ≡ cond spares (sparing j s d) (short j s d)
-      step c (atEnd l) = always spares noneMissing (short-none l) refl
-      step c (room l f) = always spares (intoEmpty (refAt j look)) (short-into l f) refl
-      step c (before l f k) = always spares minBlockSooner (short-sooner l f k) refl
-      step c (beyond l f k y) = rw (later-same l f k, y) at (over-ruled spares (refAt j look) v (short-over l f k))
-      step c (after l f k y) = rw (later-same l f k, y) at (over-ruled spares (refAt j look) v (short-over l f k))
+      step : (c : Choice) → Tested (j .refs) rule d count slots desk c → meaning residents c ≡ ruleOf rule j s d
+      step c (atEnd l) = always rule noneMissing (short-none l) refl
+      step c (room l f) = always rule (intoEmpty (refAt j look)) (short-into l f) refl
+      step c (before l f k) = always rule minBlockSooner (short-sooner l f k) refl
+      step c (beyond l f k y) = rw (later-same l f k, y) at (over-ruled rule (refAt j look) v (short-over l f k))
+      step c (after l f k y) = rw (later-same l f k, y) at (over-ruled rule (refAt j look) v (short-over l f k))
 
-  -- and stands where the tables say: a place among the residents, or a slot.
-  abbrev Placed : Choice → Type 0
-  Placed (IntoEmpty u) = (count < slots) × (look < refCount j) × (u ≡ refAt j look)
-  Placed (OverMinBlock u p) = (d * 64 ≤ p) × (p < d * 64 + count) × (look < refCount j) × (u ≡ refAt j look)
-  Placed MinBlockSooner = Unit {0}
-  Placed Waits = Unit {0}
-  Placed NoneMissing = Unit {0}
+-- and stands where the tables say: at a slot, or at a place among the residents.
+abbrev pub Placed : List ℕ → ℕ → ℕ → ℕ → ℕ → Choice → Type 0
+Placed refs look base count slots (IntoEmpty u p) = (look < length refs) × (u ≡ getD refs look 0) × (count < slots) × (p ≡ base + count)
+Placed refs look base count slots (OverMinBlock u p) =
+    (look < length refs) × (u ≡ getD refs look 0) × (slots ≤ count) × (base ≤ p) × (p < base + count)
+Placed refs look base count slots MinBlockSooner = Unit {0}
+Placed refs look base count slots Waits = Unit {0}
+Placed refs look base count slots NoneMissing = Unit {0}
 
-  placed : (spares : Bool) → Placed (chooseFrom (j .refs) look residents (d * 64) count slots next later spares)
-  placed spares = step _ (tested (j .refs) look residents (d * 64) count slots next later spares)
-    where
-      step : (c : Choice) → Tested (j .refs) look residents (d * 64) count slots next later spares c → Placed c
-      step c (atEnd l) = tt
-      step c (room l f) = (f, l, refl)
-      step c (before l f k) = tt
-      step c (beyond l f k y) = tt
-      step c (after l f k y) = let w = place-within f in (w .0, w .1, l, refl)
-
-  pub choose-place : (spares : Bool) (u p : ℕ) → chooseFrom (j .refs) look residents (d * 64) count slots next later spares ≡ OverMinBlock u p
-      → (d * 64 ≤ p) × (p < d * 64 + count) × (look < refCount j) × (u ≡ refAt j look)
-  choose-place spares u p e = subst Placed e (placed spares)
-
-  pub choose-into : (spares : Bool) (u : ℕ) → chooseFrom (j .refs) look residents (d * 64) count slots next later spares ≡ IntoEmpty u
-      → (count < slots) × (look < refCount j) × (u ≡ refAt j look)
-  choose-into spares u e = subst Placed e (placed spares)
+pub choose-placed : (refs : List ℕ) (rule : Rule) (d count slots : ℕ) (desk : List (List ℕ)) → 1 ≤ slots
+    → Placed refs (getD (looks desk) d 0) (d * 64) count slots (chooseFrom refs rule d count slots desk)
+choose-placed refs rule d count slots desk one = step _ (tested refs rule d count slots desk)
+  where
+    step : (c : Choice) → Tested refs rule d count slots desk c → Placed refs (getD (looks desk) d 0) (d * 64) count slots c
+    step c (atEnd l) = tt
+    step c (room l f) = (l, refl, f, refl)
+    step c (before l f k) = tt
+    step c (beyond l f k y) = tt
+    step c (after l f k y) =
+        let w = last-within (helds desk) (nexts desk) (d * 64) (count - 1) in
+        (l, refl, f, omega (arith, w), omega (arith, w, f, one))

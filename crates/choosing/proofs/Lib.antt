@@ -1,4 +1,6 @@
+pub mod Right
 mod Scanning
 pub mod Chosen
-pub mod DiskTables
-pub mod Pointing
+pub mod DiskStaysRight
+pub mod Moves
+pub mod PointerRight

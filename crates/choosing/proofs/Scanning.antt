@@ -22,7 +22,8 @@ module _ (residents next : List ℕ) (base : ℕ) where
   pub last-start : base ≡ lastBefore (base + 1)
   last-start = let e : base + 1 - base - 1 ≡ 0 = omega arith in sym (ap (lastPlace residents next base) e ∙ last-first)
 
-  next-place : (i : ℕ) → base + 1 ≤ i → lastBefore (i + 1) ≡ cond (leb (keyAt residents next (lastBefore i)) (keyAt residents next i)) i (lastBefore i)
+  next-place : (i : ℕ) → base + 1 ≤ i
+      → lastBefore (i + 1) ≡ cond (leb (keyAt residents next (lastBefore i)) (keyAt residents next i)) i (lastBefore i)
   unfolding lastPlace
   next-place i l =
       let e : i + 1 - base - 1 ≡ suc (i - base - 1) = omega arith in
@@ -30,16 +31,20 @@ module _ (residents next : List ℕ) (base : ℕ) where
       ap (lastPlace residents next base) e
       ∙ ap (λ (x : ℕ). cond (leb (keyAt residents next (lastBefore i)) (keyAt residents next x)) x (lastBefore i)) f
 
-  pub last-here : (i best most : ℕ) → base + 1 ≤ i → best ≡ lastBefore i → most ≡ keyAt residents next best → most ≤ keyAt residents next i → i ≡ lastBefore (i + 1)
+  pub last-here : (i best most : ℕ) → base + 1 ≤ i → best ≡ lastBefore i → most ≡ keyAt residents next best → most ≤ keyAt residents next i
+      → i ≡ lastBefore (i + 1)
   last-here i best most l p q r =
       let t : leb (keyAt residents next (lastBefore i)) (keyAt residents next i) ≡ true =
-      ap (λ (x : ℕ). leb (keyAt residents next x) (keyAt residents next i)) (sym p) ∙ le-leb (keyAt residents next best) (keyAt residents next i) (omega (arith, q)) in
+      ap (λ (x : ℕ). leb (keyAt residents next x) (keyAt residents next i)) (sym p)
+      ∙ le-leb (keyAt residents next best) (keyAt residents next i) (omega (arith, q)) in
       sym (next-place i l ∙ ap (λ (x : Bool). cond x i (lastBefore i)) t)
 
-  pub last-kept : (i best most : ℕ) → base + 1 ≤ i → best ≡ lastBefore i → most ≡ keyAt residents next best → keyAt residents next i < most → best ≡ lastBefore (i + 1)
+  pub last-kept : (i best most : ℕ) → base + 1 ≤ i → best ≡ lastBefore i → most ≡ keyAt residents next best → keyAt residents next i < most
+      → best ≡ lastBefore (i + 1)
   last-kept i best most l p q r =
       let t : leb (keyAt residents next (lastBefore i)) (keyAt residents next i) ≡ false =
-      ap (λ (x : ℕ). leb (keyAt residents next x) (keyAt residents next i)) (sym p) ∙ lt-leb (keyAt residents next best) (keyAt residents next i) (omega (arith, q)) in
+      ap (λ (x : ℕ). leb (keyAt residents next x) (keyAt residents next i)) (sym p)
+      ∙ lt-leb (keyAt residents next best) (keyAt residents next i) (omega (arith, q)) in
       p ∙ sym (next-place i l ∙ ap (λ (x : Bool). cond x i (lastBefore i)) t)
 
   -- where the greatest stands, and that it is greatest
@@ -60,11 +65,13 @@ module _ (residents next : List ℕ) (base : ℕ) where
       (λ e. rw e (let p = leb-true (keyAt residents next (lastPlace residents next base k)) (keyAt residents next (base + suc k)) e in
       by-test (leb m k)
       (λ f. let ih = last-most k m (leb-true m k f) in omega (arith, ih, p))
-      (λ f. let same : base + m ≡ base + suc k = (let g = leb-false m k f in omega (arith, g)) in let q = ap (keyAt residents next) same in omega (arith, q))))
+      (λ f. let same : base + m ≡ base + suc k = (let g = leb-false m k f in omega (arith, g)) in let q = ap (keyAt residents next) same in
+      omega (arith, q))))
       (λ e. rw e (let p = leb-false (keyAt residents next (lastPlace residents next base k)) (keyAt residents next (base + suc k)) e in
       by-test (leb m k)
       (λ f. last-most k m (leb-true m k f))
-      (λ f. let same : base + m ≡ base + suc k = (let g = leb-false m k f in omega (arith, g)) in let q = ap (keyAt residents next) same in omega (arith, p, q))))
+      (λ f. let same : base + m ≡ base + suc k = (let g = leb-false m k f in omega (arith, g)) in let q = ap (keyAt residents next) same in
+      omega (arith, p, q))))
 
 module _ (residents later : List ℕ) (bound base : ℕ) where
   abbrev pub beyondBefore : ℕ → Bool
@@ -89,8 +96,10 @@ module _ (residents later : List ℕ) (bound base : ℕ) where
       any true = refl
       any false = refl
 
-  pub beyond-kept : (i : ℕ) (found : Bool) → base ≤ i → found ≡ beyondBefore i → getD later (getD residents i 0) 0 ≤ bound → found ≡ beyondBefore (i + 1)
-  beyond-kept i found l p h = p ∙ sym (next-beyond i l ∙ ap (λ (x : Bool). beyondBefore i || x) (borrow.Author.Tests.le-ltb _ _ h) ∙ same (beyondBefore i))
+  pub beyond-kept : (i : ℕ) (found : Bool) → base ≤ i → found ≡ beyondBefore i → getD later (getD residents i 0) 0 ≤ bound
+      → found ≡ beyondBefore (i + 1)
+  beyond-kept i found l p h = p ∙ sym (next-beyond i l ∙ ap (λ (x : Bool). beyondBefore i || x) (borrow.Author.Tests.le-ltb _ _ h)
+      ∙ same (beyondBefore i))
     where
       same : (x : Bool) → x || false ≡ x
       same true = refl
@@ -103,11 +112,14 @@ module _ (residents later : List ℕ) (bound base : ℕ) where
   beyond-none (suc k) e m l =
       by-test (lib.Dec.eqb m k)
       (λ y. let same = ap (λ (x : ℕ). getD later (getD residents (base + x) 0) 0) (borrow.Author.Tests.eqb-true m k y) in
-      let h = borrow.Author.Tests.ltb-false bound (getD later (getD residents (base + k) 0) 0) (or-false-right (someBeyond residents later bound base k) _ e) in
+      let h = borrow.Author.Tests.ltb-false bound (getD later (getD residents (base + k) 0) 0)
+      (or-false-right (someBeyond residents later bound base k) _ e) in
       omega (arith, same, h))
-      (λ n. beyond-none k (or-false-left (someBeyond residents later bound base k) _ e) m (lib.Arith.lt-of-le-ne (omega arith) (borrow.Author.Tests.eqb-false m k n)))
+      (λ n. beyond-none k (or-false-left (someBeyond residents later bound base k) _ e) m
+      (lib.Arith.lt-of-le-ne (omega arith) (borrow.Author.Tests.eqb-false m k n)))
 
-  pub beyond-some : (k : ℕ) → someBeyond residents later bound base k ≡ true → (m : ℕ) × (m < k) × (bound < getD later (getD residents (base + m) 0) 0)
+  pub beyond-some : (k : ℕ) → someBeyond residents later bound base k ≡ true
+      → (m : ℕ) × (m < k) × (bound < getD later (getD residents (base + m) 0) 0)
   unfolding someBeyond
   beyond-some zero e = clash e refl
   beyond-some (suc k) e =

@@ -1,3 +1,2 @@
 pub mod Choosing
-pub mod Right
 pub mod Moving

@@ -1,16 +1,23 @@
-// What a rule chooses for one disk, from tables; and the disk's pointer to its first missing reference.
+// What a rule chooses for one disk, from its tables; and the disk's pointer to its first missing reference.
 pub mod moving;
 
-use lookup::Firsts;
+use lookup::Desk;
 ghost use mathlib.Core.Path.{_≡_};
 ghost use Prim.Native.Nat.{_+_, _-_, _≤_, _<_};
-ghost use lib.ListN.{getD};
 ghost use Rattle.lookup.specs.Lookup.{Below};
-ghost use Rattle.choosing.specs.Choosing.{keyAt, lastPlace, someBeyond, chooseFrom};
+ghost use Rattle.lookup.specs.Desk.{nexts, laters, helds};
+ghost use Rattle.choosing.specs.Choosing.{keyAt, lastPlace, someBeyond, alsoIdle, chooseFrom};
 
-// One action with the reason for it. The min-block is given by its place among the residents.
+// The two rules.
+pub enum Rule {
+    Short,
+    Sparing,
+}
+
+// What a disk does, with the reason. Where it fetches: the block U, and the place among the residents that U takes, the first empty one or the
+// min-block's.
 pub enum Choice {
-    IntoEmpty(usize),
+    IntoEmpty(usize, usize),
     OverMinBlock(usize, usize),
     MinBlockSooner,
     Waits,
@@ -18,24 +25,24 @@ pub enum Choice {
 }
 
 // The resident at a place as one number: its distance, then its block number.
-fn key(residents: &[u16; 512], place: usize, next: &Firsts) -> usize
-    requires { ⌜ (place < 512) × (getD (now residents) place 0 < 512) × Below 4096 (now next) ⌝ }
-    ensures { λ r. ⌜ r ≡ keyAt (now (residents .entry)) (now (next .entry)) place ⌝ }
+fn key(desk: &Desk, place: usize) -> usize
+    requires { ⌜ (place < 512) × Below 512 (helds (now desk)) × Below 4096 (nexts (now desk)) ⌝ }
+    ensures { λ r. ⌜ r ≡ keyAt (helds (now (desk .entry))) (nexts (now (desk .entry))) place ⌝ }
 {
-    let b = residents[place] as usize;
-    lookup::at(next, b) * 512 + b
+    let b = lookup::at(desk, lookup::HELD, place);
+    lookup::at(desk, lookup::NEXT, b) * 512 + b
 }
 
 // The place of the min-block among the `count` residents from `base` on: the greatest distance, and of several the highest number.
-fn last(residents: &[u16; 512], base: usize, count: usize, next: &Firsts) -> usize
-    requires { ⌜ (1 ≤ count) × (base + count ≤ 512) × Below 512 (now residents) × Below 4096 (now next) ⌝ }
-    ensures { λ r. ⌜ r ≡ lastPlace (now (residents .entry)) (now (next .entry)) base (count - 1) ⌝ }
+fn last(desk: &Desk, base: usize, count: usize) -> usize
+    requires { ⌜ (1 ≤ count) × (base + count ≤ 512) × Below 512 (helds (now desk)) × Below 4096 (nexts (now desk)) ⌝ }
+    ensures { λ r. ⌜ r ≡ lastPlace (helds (now (desk .entry))) (nexts (now (desk .entry))) base (count - 1) ⌝ }
 {
     let mut best = base;
-    let mut most = key(residents, base, next);
+    let mut most = key(desk, base);
     let mut i = base + 1;
     while i < base + count {
-        let here = key(residents, i, next);
+        let here = key(desk, i);
         if most <= here {
             most = here;
             best = i;
@@ -46,20 +53,15 @@ fn last(residents: &[u16; 512], base: usize, count: usize, next: &Firsts) -> usi
 }
 
 // Whether one of the `count` residents from `base` on has a later distance than `bound`.
-fn some_later(
-    residents: &[u16; 512],
-    base: usize,
-    count: usize,
-    later: &Firsts,
-    bound: usize,
-) -> bool
-    requires { ⌜ (base + count ≤ 512) × Below 512 (now residents) ⌝ }
-    ensures { λ r. ⌜ r ≡ someBeyond (now (residents .entry)) (now (later .entry)) bound base count ⌝ }
+fn some_later(desk: &Desk, base: usize, count: usize, bound: usize) -> bool
+    requires { ⌜ (base + count ≤ 512) × Below 512 (helds (now desk)) ⌝ }
+    ensures { λ r. ⌜ r ≡ someBeyond (helds (now (desk .entry))) (laters (now (desk .entry))) bound base count ⌝ }
 {
     let mut found = false;
     let mut i = base;
     while i < base + count {
-        if bound < lookup::at(later, residents[i] as usize) {
+        let b = lookup::at(desk, lookup::HELD, i);
+        if bound < lookup::at(desk, lookup::LATER, b) {
             found = true;
         }
         i += 1;
@@ -67,38 +69,39 @@ fn some_later(
     found
 }
 
-// What the short rule, or the sparing one, does on a disk whose first missing reference stands at `look`.
-pub fn choose(
-    refs: &[u16],
-    look: usize,
-    residents: &[u16; 512],
-    base: usize,
-    count: usize,
-    slots: usize,
-    next: &Firsts,
-    later: &Firsts,
-    sparing: bool,
-) -> Choice
-    requires { ⌜ (1 ≤ slots) × (base + count ≤ 512) × Below 512 (now residents) × Below 4096 (now next) ⌝ }
-    ensures { λ r. ⌜ r ≡ chooseFrom (now (refs .entry)) look (now (residents .entry)) base count slots (now (next .entry)) (now (later .entry)) sparing ⌝ }
+// Whether the rule waits though U could replace the min-block, whose distance is `far`.
+fn waits(rule: Rule, desk: &Desk, base: usize, count: usize, far: usize) -> bool
+    requires { ⌜ (base + count ≤ 512) × Below 512 (helds (now desk)) ⌝ }
+    ensures { λ r. ⌜ r ≡ alsoIdle rule (someBeyond (helds (now (desk .entry))) (laters (now (desk .entry))) far base count) ⌝ }
 {
+    match rule {
+        Rule::Short => false,
+        Rule::Sparing => some_later(desk, base, count, far),
+    }
+}
+
+// What a rule does on disk d, which holds `count` blocks in its slots.
+pub fn choose(d: usize, count: usize, slots: usize, refs: &[u16], rule: Rule, desk: &Desk) -> Choice
+    requires { ⌜ (d < 8) × (count ≤ slots) × (1 ≤ slots) × (slots ≤ 64) ⌝ }
+    requires { ⌜ Below 512 (now refs) × Below 512 (helds (now desk)) × Below 4096 (nexts (now desk)) ⌝ }
+    ensures { λ r. ⌜ r ≡ chooseFrom (now (refs .entry)) rule d count slots (now (desk .entry)) ⌝ }
+{
+    let look = lookup::at(desk, lookup::LOOK, d);
     if refs.len() <= look {
         return Choice::NoneMissing;
     }
     let u = refs[look] as usize;
+    let base = d * 64;
     if count < slots {
-        return Choice::IntoEmpty(u);
+        return Choice::IntoEmpty(u, base + count);
     }
-    let place = last(residents, base, count, next);
-    let v = residents[place] as usize;
-    let far = lookup::at(next, v);
+    let place = last(desk, base, count);
+    let far = lookup::at(desk, lookup::NEXT, lookup::at(desk, lookup::HELD, place));
     if far < look {
         return Choice::MinBlockSooner;
     }
-    if sparing {
-        if some_later(residents, base, count, later, far) {
-            return Choice::Waits;
-        }
+    if waits(rule, desk, base, count, far) {
+        return Choice::Waits;
     }
     Choice::OverMinBlock(u, place)
 }

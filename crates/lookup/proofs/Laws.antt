@@ -13,7 +13,7 @@ use Rattle.bits.proofs.Logic.{by-test}
 use Rattle.model.specs.Plans.{each}
 use Rattle.model.specs.Rules.{distance}
 use Rattle.lookup.specs.Lookup.{Below, firsts, nextOf, agains, refDisks, chainFrom}
-use Rattle.model.proofs.Distances.{distance-from, distance-to, distance-hit, distance-least, distance-is, distance-skip, distance-on}
+use Rattle.model.proofs.Distances.{distance-from, distance-to, distance-hit, distance-least, distance-skip, distance-on}
 
 -- past its end a list has the value 0
 pub below-any : (n : ℕ) (l : List ℕ) → 0 < n → Below n l → (i : ℕ) → getD l i 0 < n
@@ -57,12 +57,6 @@ set-each f g n b v p e other =
 
 -- a string written over another as far as that reaches
 
-laid-length : (s lent : List ℕ) → length (laid s lent) ≡ length lent
-unfolding laid
-laid-length [] lent = refl
-laid-length (x ∷ s) [] = refl
-laid-length (x ∷ s) (y ∷ lent) = ap suc (laid-length s lent)
-
 laid-at : (s lent : List ℕ) (i : ℕ) → i < length s → i < length lent → getD (laid s lent) i 0 ≡ getD s i 0
 unfolding laid
 laid-at [] lent i h room = absurd (omega arith)
@@ -79,10 +73,6 @@ firsts-length l n p = length-each (distance l p) 0 n
 pub firsts-at : (l : List ℕ) (n p b : ℕ) → b < n → getD (firsts l n p) b 0 ≡ distance l p b
 unfolding firsts
 firsts-at l n p b h = getD-each (distance l p) n b 0 h
-
-pub agains-length : (l table : List ℕ) → length (agains l table) ≡ length table
-unfolding agains
-agains-length l table = laid-length (each (nextOf l) 0 (length l)) table
 
 pub agains-at : (l table : List ℕ) (i : ℕ) → i < length l → i < length table → getD (agains l table) i 0 ≡ distance l (suc i) (getD l i 0)
 unfolding agains
@@ -104,27 +94,14 @@ refDisks-at disks (r ∷ refs) (suc i) h = refDisks-at disks refs i (omega arith
 -- passing a reference
 
 -- where a block's entry is its distance from a reference, after `pass` it is its distance from the next one
-pub pass-distance : (refs first : List ℕ) (at v b : ℕ) → at < length refs → getD refs at 0 < length first → v ≡ distance refs (suc at) (getD refs at 0)
+pub pass-distance : (refs first : List ℕ) (at v b : ℕ) → at < length refs → getD refs at 0 < length first
+    → v ≡ distance refs (suc at) (getD refs at 0)
     → getD first b 0 ≡ distance refs at b → getD (set first (getD refs at 0) v) b 0 ≡ distance refs (suc at) b
 pass-distance refs first at v b h room e was =
     by-test (eqb b (getD refs at 0))
     (λ y. let same = eqb-true b (getD refs at 0) y in rw same (getD-set-same first (getD refs at 0) v 0 room ∙ e))
     (λ f. let apart = eqb-false b (getD refs at 0) f in
     getD-set-other first (getD refs at 0) b v 0 apart ∙ was ∙ sym (distance-on refs at b (λ q. apart (sym q)) h))
-
--- the same of the whole table
-pub pass-firsts : (refs first : List ℕ) (n at v : ℕ) → at < length refs → getD refs at 0 < n → v ≡ distance refs (suc at) (getD refs at 0)
-    → first ≡ firsts refs n at → set first (getD refs at 0) v ≡ firsts refs n (suc at)
-unfolding firsts
-pass-firsts refs first n at v h room e was =
-    ap (λ (t : List ℕ). set t (getD refs at 0) v) was
-    ∙ set-each (distance refs at) (distance refs (suc at)) n (getD refs at 0) v room (sym e)
-    (λ i apart. sym (distance-on refs at i (λ q. apart (sym q)) h))
-
--- a pointer that jumps over references to other blocks keeps the entry of a block right
-pub skip-distance : (refs first : List ℕ) (p at b : ℕ) → p ≤ at → at ≤ length refs → ((i : ℕ) → p ≤ i → i < at → getD refs i 0 ≢ b)
-    → getD first b 0 ≡ distance refs p b → getD first b 0 ≡ distance refs at b
-skip-distance refs first p at b h l none was = was ∙ sym (distance-skip refs p at b h l none)
 
 -- the references of a disk
 
@@ -148,14 +125,6 @@ module _ (disks refs : List ℕ) where
       let m = chain-to p d w in
       distance-least (refDisks disks refs) p d i h l (refDisks-at disks refs i (omega (arith, m)) ∙ q)
 
-  pub chain-is : (p d q : ℕ) → p ≤ q → q ≤ length refs → (q < length refs → getD disks (getD refs q 0) 0 ≡ d)
-      → ((i : ℕ) → p ≤ i → i < q → getD disks (getD refs i 0) 0 ≢ d) → q ≡ chainFrom disks refs p d
-  chain-is p d q h l hit least =
-      let e = refDisks-length disks refs in
-      distance-is (refDisks disks refs) p d q h (omega (arith, e))
-      (λ r. refDisks-at disks refs q (omega (arith, e)) ∙ hit (omega (arith, e)))
-      (λ i r s t. least i r s (sym (refDisks-at disks refs i (omega arith)) ∙ t))
-
   -- what `chain` writes
   pub chain-head : (n d : ℕ) → d < n → getD (firsts (refDisks disks refs) n 0) d 0 ≡ chainFrom disks refs 0 d
   chain-head n d h = firsts-at (refDisks disks refs) n 0 d h
@@ -172,13 +141,8 @@ module _ (disks refs : List ℕ) where
       distance-skip refs p (chainFrom disks refs p d) b (chain-from p d) (chain-to p d w)
       (λ i h l q. chain-least p d i w h l (ap (λ (c : ℕ). getD disks c 0) q ∙ on))
 
-  -- a pointer on a reference of disk d passes it and goes to the next one of d: the entries of d's blocks are then right from there,
+  -- a pointer on a reference of disk d passes it and goes to the next one of d: the entries of d's blocks are then right from there
   pub chain-pass : (first : List ℕ) (at v d b : ℕ) → at < length refs → getD refs at 0 < length first → v ≡ distance refs (suc at) (getD refs at 0)
       → getD disks b 0 ≡ d → getD first b 0 ≡ distance refs at b
       → getD (set first (getD refs at 0) v) b 0 ≡ distance refs (chainFrom disks refs (suc at) d) b
   chain-pass first at v d b h room e on was = pass-distance refs first at v b h room e was ∙ sym (chain-distance (suc at) d b h on)
-
-  -- and the entries of other disks' blocks do not change
-  pub chain-elsewhere : (first : List ℕ) (at v b : ℕ) → getD disks b 0 ≢ getD disks (getD refs at 0) 0
-      → getD (set first (getD refs at 0) v) b 0 ≡ getD first b 0
-  chain-elsewhere first at v b apart = getD-set-other first (getD refs at 0) b v 0 (λ q. apart (ap (λ (c : ℕ). getD disks c 0) q))

@@ -1,2 +1,3 @@
-pub mod Laws
 mod Backward
+pub mod Laws
+pub mod Rows

@@ -1,19 +1,40 @@
-// Forward distances: the next reference of each block, made once from the reference list in one backward pass and kept up as reading goes on, in
-// constant time a reference; and the references of each disk as a chain. How a position is held is known here only.
+// The desk of a plan: distances of blocks, residents and pointers of disks, each a row. It is made from the reference list in two backward passes,
+// and kept up in constant time a reference. The steps lead from each reference to the next. How a position is held is known here only.
 ghost use mathlib.Core.Path.{_≡_};
 ghost use Prim.Native.Nat.{_<_, _≤_};
-ghost use lib.ListN.{length, getD, set};
+ghost use lib.ListN.{length, getD};
 ghost use Rattle.lookup.specs.Lookup.{Below, firsts, agains, refDisks};
+ghost use Rattle.lookup.specs.Desk.{cell, withCell, ofBlock, ofDisk, opened, stepped};
 
 // A position in the reference list. "Never" is the list's length.
 pub type Position = usize;
 
-// A position for each block, for each reference, and for each disk.
-pub type Firsts = [Position; 512];
+// A row of the desk, and of the steps.
+pub type Row = [Position; 512];
 
-pub type Agains = [Position; 2048];
+pub type StepRow = [Position; 2048];
 
-pub type Heads = [Position; 8];
+// The tables of a plan that change.
+pub type Desk = [Row; 4];
+
+// The distance of each block: the position of its first reference at or after the next read.
+pub const NEXT: usize = 0;
+
+// The same at or after its disk's pointer.
+pub const LATER: usize = 1;
+
+// The residents of disk d, from d * 64 on; how many they are is `held` of `playing::Buffers`.
+pub const HELD: usize = 2;
+
+// The pointer of each disk: the position of its first missing reference.
+pub const LOOK: usize = 3;
+
+// The tables that do not change: for each reference the next one of its block, and the next one of its disk.
+pub type Steps = [StepRow; 2];
+
+const OF_BLOCK: usize = 0;
+
+const OF_DISK: usize = 1;
 
 // A number as a position, and a position as a number.
 fn position(i: usize) -> Position
@@ -30,7 +51,7 @@ fn number(p: Position) -> usize
 }
 
 // The first reference of each block, and for each reference the next one of its block.
-pub fn index(refs: &[u16], first: &mut Firsts, again: &mut Agains)
+fn index(refs: &[u16], first: &mut Row, again: &mut StepRow)
     requires { ⌜ (length (now refs) ≤ 2048) × Below 512 (now refs) ⌝ }
     ensures { λ _. ⌜ now (first .exit) ≡ firsts (now (refs .entry)) 512 0 ⌝ }
     ensures { λ _. ⌜ now (again .exit) ≡ agains (now (refs .entry)) (now (again .entry)) ⌝ }
@@ -46,57 +67,61 @@ pub fn index(refs: &[u16], first: &mut Firsts, again: &mut Agains)
 }
 
 // The first reference of each disk, and for each reference the next one of its disk.
-pub fn chain(refs: &[u16], disk_of: &[u16; 512], next_on: &mut Agains, head: &mut Heads)
+fn chain(refs: &[u16], disk_of: &[u16; 512], first: &mut Row, again: &mut StepRow)
     requires { ⌜ (length (now refs) ≤ 2048) × Below 512 (now refs) × Below 8 (now «disk_of») ⌝ }
-    ensures { λ _. ⌜ now (head .exit) ≡ firsts (refDisks (now («disk_of» .entry)) (now (refs .entry))) 8 0 ⌝ }
-    ensures { λ _. ⌜ now («next_on» .exit) ≡ agains (refDisks (now («disk_of» .entry)) (now (refs .entry))) (now («next_on» .entry)) ⌝ }
+    ensures { λ _. ⌜ now (first .exit) ≡ firsts (refDisks (now («disk_of» .entry)) (now (refs .entry))) 512 0 ⌝ }
+    ensures { λ _. ⌜ now (again .exit) ≡ agains (refDisks (now («disk_of» .entry)) (now (refs .entry))) (now (again .entry)) ⌝ }
 {
     let mut i = refs.len();
-    *head = [position(i); 8];
+    *first = [position(i); 512];
     while 0 < i {
         i -= 1;
         let disk = disk_of[refs[i] as usize] as usize;
-        next_on[i] = head[disk];
-        head[disk] = position(i);
+        again[i] = first[disk];
+        first[disk] = position(i);
     }
 }
 
-// Reading, or a pointer, passes the reference at a position: the first reference of its block is now the next one.
-pub fn pass(first: &mut Firsts, again: &Agains, refs: &[u16], at: usize)
-    requires { ⌜ (at < length (now refs)) × (at < 2048) × (getD (now refs) at 0 < 512) ⌝ }
-    ensures { λ _. ⌜ now (first .exit) ≡ set (now (first .entry)) (getD (now (refs .entry)) at 0) (getD (now (again .entry)) at 0) ⌝ }
+// The desk and the steps of a job whose buffers are empty.
+pub fn open(refs: &[u16], disk_of: &[u16; 512], desk: &mut Desk, steps: &mut Steps)
+    requires { ⌜ (length (now refs) ≤ 2048) × Below 512 (now refs) × Below 8 (now «disk_of») ⌝ }
+    ensures { λ _. ⌜ now (desk .exit) ≡ opened (now («disk_of» .entry)) (now (refs .entry)) (now (desk .entry)) ⌝ }
+    ensures { λ _. ⌜ now (steps .exit) ≡ stepped (now («disk_of» .entry)) (now (refs .entry)) (now (steps .entry)) ⌝ }
 {
-    first[refs[at] as usize] = again[at];
+    index(refs, &mut desk[NEXT], &mut steps[OF_BLOCK]);
+    desk[LATER] = desk[NEXT];
+    chain(refs, disk_of, &mut desk[LOOK], &mut steps[OF_DISK]);
 }
 
-// The position that a table has for a block.
-pub fn at(first: &Firsts, block: usize) -> usize
-    requires { ⌜ block < 512 ⌝ }
-    ensures { λ r. ⌜ r ≡ getD (now (first .entry)) block 0 ⌝ }
+// Reading or a pointer passes a reference: in the given row, the cell of its block becomes the block's next reference.
+pub fn pass(desk: &mut Desk, row: usize, steps: &Steps, refs: &[u16], reference: usize)
+    requires { ⌜ (row < 4) × (reference < length (now refs)) × (reference < 2048) × (getD (now refs) reference 0 < 512) ⌝ }
+    ensures { λ _. ⌜ now (desk .exit)
+        ≡ withCell (now (desk .entry)) row (getD (now (refs .entry)) reference 0) (getD (ofBlock (now (steps .entry))) reference 0) ⌝ }
 {
-    number(first[block])
+    desk[row][refs[reference] as usize] = steps[OF_BLOCK][reference];
 }
 
-// The position that a table has for a reference.
-pub fn after(again: &Agains, reference: usize) -> usize
+// A cell of a row.
+pub fn at(desk: &Desk, row: usize, i: usize) -> usize
+    requires { ⌜ (row < 4) × (i < 512) ⌝ }
+    ensures { λ r. ⌜ r ≡ cell (now (desk .entry)) row i ⌝ }
+{
+    number(desk[row][i])
+}
+
+// Sets a cell of a row.
+pub fn put(desk: &mut Desk, row: usize, i: usize, to: usize)
+    requires { ⌜ (row < 4) × (i < 512) × (to ≤ 2048) ⌝ }
+    ensures { λ _. ⌜ now (desk .exit) ≡ withCell (now (desk .entry)) row i to ⌝ }
+{
+    desk[row][i] = position(to);
+}
+
+// The next reference of the same disk.
+pub fn after(steps: &Steps, reference: usize) -> usize
     requires { ⌜ reference < 2048 ⌝ }
-    ensures { λ r. ⌜ r ≡ getD (now (again .entry)) reference 0 ⌝ }
+    ensures { λ r. ⌜ r ≡ getD (ofDisk (now (steps .entry))) reference 0 ⌝ }
 {
-    number(again[reference])
-}
-
-// The position that a table has for a disk.
-pub fn head_of(head: &Heads, disk: usize) -> usize
-    requires { ⌜ disk < 8 ⌝ }
-    ensures { λ r. ⌜ r ≡ getD (now (head .entry)) disk 0 ⌝ }
-{
-    number(head[disk])
-}
-
-// The position of a disk is another from now on.
-pub fn lead(head: &mut Heads, disk: usize, to: usize)
-    requires { ⌜ (disk < 8) × (to ≤ 2048) ⌝ }
-    ensures { λ _. ⌜ now (head .exit) ≡ set (now (head .entry)) disk to ⌝ }
-{
-    head[disk] = position(to);
+    number(steps[OF_DISK][reference])
 }

@@ -1,6 +1,5 @@
 -- What planning gives, from what the parts of the call give. Assumes nothing.
 use mathlib.Core.Path.{_≡_, refl, sym, ap, _∙_, subst}
-use mathlib.Core.Bool.{Bool, true, false}
 use mathlib.Core.List.{List}
 use Prim.Native.Nat.{ℕ, _+_, _/_, _≤_}
 use native.Mathlib.Omega.{arith}
@@ -22,7 +21,9 @@ use Rattle.model.specs.Calls.{countsOf, checkAnswer, planAnswer, plannedFor, wi
 use Rattle.model.specs.Calls.{Planned as PlanGiven}
 use Rattle.model.proofs.Promises.{sound-accepted, short-passes, sparing-passes, planned-counts, short-rounds, sparing-rounds, handed-back}
 use Rattle.model.proofs.Bytes
-use Rattle.acting.specs.Acting.{ruleOf}
+use Rattle.choosing.specs.Choosing.{ruleOf}
+use Rattle.choosing.specs.declared.Rule.{Rule}
+use Rattle.choosing.specs.declared.Rule.the-variants.{Short, Sparing}
 use Rattle.planning.specs.Planning.{totalsOf, plansOf}
 use Rattle.planning.specs.declared.Totals.{Totals}
 use Rattle.planning.specs.declared.Plans.{Plans}
@@ -111,44 +112,44 @@ module _ (m a n b number : ℕ) (p : PlanGiven) (long₁ : m ≡ length (p .shor
 -- The plans of a sound job.
 module _ (j : Job) (sound : Sound j) where
   -- the schedule of the short or the sparing rule
-  abbrev theSchedule : Bool → Schedule
-  theSchedule spares = scheduleOf (ruleOf spares) j
+  abbrev theSchedule : Rule → Schedule
+  theSchedule rule = scheduleOf (ruleOf rule) j
 
-  sheet-long : (spares : Bool) → length (sheetOf (theSchedule spares)) ≤ 40962
-  sheet-long true = sparing-rounds _ j (sound-accepted j sound) .3
-  sheet-long false = short-rounds _ j (sound-accepted j sound) .3
+  sheet-long : (rule : Rule) → length (sheetOf (theSchedule rule)) ≤ 40962
+  sheet-long Sparing = sparing-rounds _ j (sound-accepted j sound) .3
+  sheet-long Short = short-rounds _ j (sound-accepted j sound) .3
 
-  module _ (spares : Bool) (r : Totals) (q : r ≡ totalsOf (theSchedule spares)) where
+  module _ (rule : Rule) (r : Totals) (q : r ≡ totalsOf (theSchedule rule)) where
     -- a sheet's bytes, from its bits
-    pub sheet-bytes : (r .bits + 7) / 8 ≡ length (sheetOf (theSchedule spares))
+    pub sheet-bytes : (r .bits + 7) / 8 ≡ length (sheetOf (theSchedule rule))
     unfolding totalsOf sheetOf pack
-    sheet-bytes = ap (λ (x : Totals). (x .bits + 7) / 8) q ∙ sym (length-bytes (bytesFor (length (sheetBits (theSchedule spares)))) (sheetBits (theSchedule spares)))
+    sheet-bytes = ap (λ (x : Totals). (x .bits + 7) / 8) q ∙ sym (length-bytes (bytesFor (length (sheetBits (theSchedule rule)))) (sheetBits (theSchedule rule)))
 
     bytes-few : (r .bits + 7) / 8 ≤ 40962
-    bytes-few = let l = sheet-bytes in let m = sheet-long spares in omega (arith, l, m)
+    bytes-few = let l = sheet-bytes in let m = sheet-long rule in omega (arith, l, m)
 
     -- a count of bits, and seven more, is a machine number
     pub bits-fit : Machine w64 (r .bits + 7)
     bits-fit = let m = bytes-few in omega (arith, m)
 
     -- the scratch bytes have room for the sheet, and their front is the sheet
-    pub scratch-room : (s : List ℕ) → s ≡ bytes 40968 (sheetBits (theSchedule spares)) → (length s ≡ 40968) × ((r .bits + 7) / 8 ≤ 40968)
-    scratch-room s p = (ap length p ∙ length-bytes 40968 (sheetBits (theSchedule spares)), let few = bytes-few in omega (arith, few))
+    pub scratch-room : (s : List ℕ) → s ≡ bytes 40968 (sheetBits (theSchedule rule)) → (length s ≡ 40968) × ((r .bits + 7) / 8 ≤ 40968)
+    scratch-room s p = (ap length p ∙ length-bytes 40968 (sheetBits (theSchedule rule)), let few = bytes-few in omega (arith, few))
 
-    pub copied : (s lent lent′ : List ℕ) → s ≡ bytes 40968 (sheetBits (theSchedule spares)) → lent′ ≡ over (take ((r .bits + 7) / 8) s) lent
-        → lent′ ≡ over (sheetOf (theSchedule spares)) lent
+    pub copied : (s lent lent′ : List ℕ) → s ≡ bytes 40968 (sheetBits (theSchedule rule)) → lent′ ≡ over (take ((r .bits + 7) / 8) s) lent
+        → lent′ ≡ over (sheetOf (theSchedule rule)) lent
     unfolding totalsOf sheetOf pack
     copied s lent lent′ p w =
         let b = ap (λ (x : Totals). x .bits) q in
         let few = bytes-few in
-        w ∙ ap (λ (x : List ℕ). over x lent) ((λ i. take ((b i + 7) / 8) (p i)) ∙ take-pack 40968 (sheetBits (theSchedule spares)) (omega (arith, b, few)))
+        w ∙ ap (λ (x : List ℕ). over x lent) ((λ i. take ((b i + 7) / 8) (p i)) ∙ take-pack 40968 (sheetBits (theSchedule rule)) (omega (arith, b, few)))
 
   module _ (p : Plans) (q : p ≡ plansOf j) where
-    pub short-totals : p .short ≡ totalsOf (theSchedule false)
+    pub short-totals : p .short ≡ totalsOf (theSchedule Short)
     unfolding plansOf
     short-totals = ap (λ (x : Plans). x .short) q
 
-    pub sparing-totals : p .sparing ≡ totalsOf (theSchedule true)
+    pub sparing-totals : p .sparing ≡ totalsOf (theSchedule Sparing)
     unfolding plansOf
     sparing-totals = ap (λ (x : Plans). x .sparing) q
 
@@ -159,14 +160,14 @@ module _ (j : Job) (sound : Sound j) where
     abbrev n : ℕ
     n = (p .sparing .bits + 7) / 8
 
-    m-is : m ≡ length (sheetOf (theSchedule false))
-    m-is = sheet-bytes false (p .short) short-totals
+    m-is : m ≡ length (sheetOf (theSchedule Short))
+    m-is = sheet-bytes Short (p .short) short-totals
 
-    n-is : n ≡ length (sheetOf (theSchedule true))
-    n-is = sheet-bytes true (p .sparing) sparing-totals
+    n-is : n ≡ length (sheetOf (theSchedule Sparing))
+    n-is = sheet-bytes Sparing (p .sparing) sparing-totals
 
     abbrev bothPlans : PlanGiven
-    bothPlans = plannedOf (theSchedule false) (theSchedule true)
+    bothPlans = plannedOf (theSchedule Short) (theSchedule Sparing)
 
     -- what planning gives for two rooms
     module _ (a b number : ℕ) (e : number ≡ roomNumber m a n b) where

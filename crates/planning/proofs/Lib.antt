@@ -1,4 +1,6 @@
-mod Starting
-mod Driving
-mod Between
-mod Setting
+pub mod TurnsRight
+mod Sizes
+mod WrittenSoFar
+mod RestOfPlan
+mod Driven
+mod Opened

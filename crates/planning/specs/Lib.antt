@@ -1,1 +1,3 @@
 pub mod Planning
+pub mod Driving
+pub mod Sized

@@ -8,6 +8,7 @@ use Rattle.model.specs.Sheet.{sheetBits}
 use Rattle.planning.specs.declared.Totals.{Totals}
 use Rattle.planning.specs.declared.Plans.{Plans}
 
+-- The rounds, the fetches and the bits of a schedule.
 unfoldable pub totalsOf : Schedule → Totals
 unfolding rounds fetches each sheetBits
 totalsOf schedule = record { rounds = rounds schedule; fetches = each (fetches schedule) 0 8; bits = length (sheetBits schedule) }

@@ -1,20 +1,22 @@
 // Both plans of a job: their rounds, their fetches and their sheets.
+use choosing::Choice;
+use choosing::Rule;
 use job::Job;
-use lookup::Agains;
-use lookup::Firsts;
-use lookup::Heads;
+use lookup::Desk;
+use lookup::Steps;
 use playing::Buffers;
+use writing::Actions;
 ghost use mathlib.Core.Path.{_≡_};
-ghost use mathlib.Core.Bool.{true, false};
-ghost use mathlib.Core.List.{_++_};
+ghost use Prim.Native.Nat.{_≤_};
 ghost use lib.ListN.{replicate};
 ghost use Rattle.bits.specs.Bits.{bytes};
 ghost use Rattle.job.specs.Meaning.{Fits, jobOf};
-ghost use Rattle.model.specs.Playing.{start};
 ghost use Rattle.model.specs.Plans.{scheduleOf};
-ghost use Rattle.model.specs.Sheet.{roundsBits, sheetBits};
-ghost use Rattle.choosing.specs.Right.{Right};
-ghost use Rattle.acting.specs.Acting.{jobWith, ruleOf, Setting};
+ghost use Rattle.model.specs.Sheet.{sheetBits};
+ghost use Rattle.choosing.specs.Choosing.{ruleOf};
+ghost use Rattle.choosing.specs.declared.Rule.the-variants.{Short, Sparing};
+ghost use Rattle.planning.specs.Driving.{PlanInput, PlanState, noActs, drivenFrom, endFrom};
+ghost use Rattle.planning.specs.Sized.{Sized, Kept};
 ghost use Rattle.planning.specs.Planning.{totalsOf, plansOf};
 
 // The rounds and fetches of a plan, and how many bits its sheet has.
@@ -30,65 +32,65 @@ pub struct Plans {
     pub sparing: Totals,
 }
 
-// All rounds of a plan, from tables that are right at its start. "The reading stops at the first missing block or at the end."
-fn play_rounds(
-    disks: usize,
-    slots: &[u16; 8],
-    blocks: usize,
-    disk: &[u16; 512],
+// A plan from any buffers and their desk, `most` rounds of it at most, written as a sheet into a buffer of zeros. This function alone holds the
+// playing state.
+fn drive(
+    buffers: Buffers,
+    most: usize,
+    slots: &[u16],
     refs: &[u16],
-    sparing: bool,
-    again: &Agains,
-    follow: &Agains,
-    next: &mut Firsts,
-    later: &mut Firsts,
-    look: &mut Heads,
+    rule: Rule,
+    steps: &Steps,
+    desk: &mut Desk,
     sheet: &mut [u8],
 ) -> Totals
-    requires { ⌜ Setting (jobWith disks (now slots) blocks (now disk) (now refs)) disks (now slots) blocks (now refs) (now again) (now follow) ⌝ }
-    requires { ⌜ Right (jobWith disks (now slots) blocks (now disk) (now refs)) (start (jobWith disks (now slots) blocks (now disk) (now refs))) (replicate 512 0) (now look) (now later) (now next) ⌝ }
-    requires { ⌜ now sheet ≡ replicate 40968 0 ⌝ }
-    ensures { λ r. ⌜ r ≡ totalsOf (scheduleOf (ruleOf sparing) (jobWith disks (now (slots .entry)) blocks (now (disk .entry)) (now (refs .entry)))) ⌝ }
-    ensures { λ r. ⌜ now (sheet .exit) ≡ bytes 40968 (replicate 12 0 ++ roundsBits (scheduleOf (ruleOf sparing) (jobWith disks (now (slots .entry)) blocks (now (disk .entry)) (now (refs .entry))))) ⌝ }
+    requires { ⌜ (let k : PlanInput = record { slots = now slots; refs = now refs; steps = now steps; rule = rule } in
+        Sized k × Kept k (record { buffers = buffers; desk = now desk; acts = noActs }) × (most ≤ 2048) × (now sheet ≡ replicate 40968 0)) ⌝ }
+    ensures { λ r. ⌜ (let k : PlanInput = record { slots = now (slots .entry); refs = now (refs .entry); steps = now (steps .entry); rule = rule } in
+        let p : PlanState = record { buffers = buffers; desk = now (desk .entry); acts = noActs } in
+        (r ≡ totalsOf (drivenFrom k most p)) × (now (sheet .exit) ≡ bytes 40968 (sheetBits (drivenFrom k most p)))
+        × (now (desk .exit) ≡ endFrom k most p .desk)) ⌝ }
 {
-    let mut residents = [0u16; 512];
-    let mut fetched = [0u16; 8];
-    let mut discarded = [0u16; 8];
+    let disks = slots.len();
+    let mut b = buffers;
+    let mut acts: Actions = [[512; 8]; 3];
     let mut fetches = [0u16; 8];
-    let mut b = Buffers::empty();
     let mut rounds = 0;
     let mut at = 12;
-    'rounds: while b.next < refs.len() {
-        b = acting::act_all(
-            b,
-            rounds,
-            disks,
-            slots,
-            blocks,
-            disk,
-            refs,
-            sparing,
-            again,
-            follow,
-            next,
-            later,
-            look,
-            &mut residents,
-            &mut fetched,
-            &mut discarded,
-        );
-        at = writing::put_round(sheet, at, disks, &fetched, &discarded);
-        writing::tally(&mut fetches, disks, &fetched);
+    'rounds: while rounds < most {
+        if refs.len() <= b.next {
+            break;
+        }
+        let mut d = 0;
+        'disks: while d < disks {
+            let c = choosing::choose(d, b.held[d] as usize, slots[d] as usize, refs, rule, desk);
+            acting::note(d, c, desk, &mut acts);
+            match c {
+                Choice::IntoEmpty(u, place) => {
+                    b = b.fetch(u, d);
+                    acting::take_in(d, u, place, refs, &b.resident, steps, desk);
+                }
+                Choice::OverMinBlock(u, place) => {
+                    b = b.replace(lookup::at(desk, lookup::HELD, place), u, d);
+                    acting::take_in(d, u, place, refs, &b.resident, steps, desk);
+                }
+                Choice::MinBlockSooner | Choice::Waits | Choice::NoneMissing => {}
+            }
+            d += 1;
+        }
+        at = writing::put_round(sheet, at, disks, &acts);
+        writing::tally(&mut fetches, disks, &acts);
         rounds += 1;
-        while b.next < refs.len() {
+        'references: while b.next < refs.len() {
             let p = b.next;
             if !b.resident[refs[p] as usize] {
                 continue 'rounds;
             }
-            lookup::pass(next, again, refs, p);
+            lookup::pass(desk, lookup::NEXT, steps, refs, p);
             b = b.consume();
         }
     }
+    writing::put_header(sheet, rounds);
     Totals {
         rounds,
         fetches,
@@ -96,93 +98,33 @@ fn play_rounds(
     }
 }
 
-// One plan, from the tables at its start, written as a sheet into a buffer of zeros.
-fn write_plan(
-    disks: usize,
-    slots: &[u16; 8],
-    blocks: usize,
-    disk: &[u16; 512],
-    refs: &[u16],
-    sparing: bool,
-    again: &Agains,
-    follow: &Agains,
-    first: Firsts,
-    heads: Heads,
-    sheet: &mut [u8],
-) -> Totals
-    requires { ⌜ Setting (jobWith disks (now slots) blocks (now disk) (now refs)) disks (now slots) blocks (now refs) (now again) (now follow) ⌝ }
-    requires { ⌜ Right (jobWith disks (now slots) blocks (now disk) (now refs)) (start (jobWith disks (now slots) blocks (now disk) (now refs))) (replicate 512 0) heads first first ⌝ }
-    requires { ⌜ now sheet ≡ replicate 40968 0 ⌝ }
-    ensures { λ r. ⌜ r ≡ totalsOf (scheduleOf (ruleOf sparing) (jobWith disks (now (slots .entry)) blocks (now (disk .entry)) (now (refs .entry)))) ⌝ }
-    ensures { λ r. ⌜ now (sheet .exit) ≡ bytes 40968 (sheetBits (scheduleOf (ruleOf sparing) (jobWith disks (now (slots .entry)) blocks (now (disk .entry)) (now (refs .entry))))) ⌝ }
-{
-    let mut next = first;
-    let mut later = first;
-    let mut look = heads;
-    let totals = play_rounds(
-        disks,
-        slots,
-        blocks,
-        disk,
-        refs,
-        sparing,
-        again,
-        follow,
-        &mut next,
-        &mut later,
-        &mut look,
-        sheet,
-    );
-    writing::put_header(sheet, totals.rounds);
-    totals
-}
-
-// Both plans of a job, each written as a sheet into a buffer of zeros. The tables are made once.
+// Both plans of a job, each written as a sheet into a buffer of zeros. The desk and the steps are made once; each plan has a desk of its own.
 pub fn run(job: Job, short: &mut [u8], sparing: &mut [u8]) -> Plans
-    requires { ⌜ Fits job ⌝ }
-    requires { ⌜ now short ≡ replicate 40968 0 ⌝ }
-    requires { ⌜ now sparing ≡ replicate 40968 0 ⌝ }
-    ensures { λ r. ⌜ r ≡ plansOf (jobOf job) ⌝ }
-    ensures { λ r. ⌜ now (short .exit) ≡ bytes 40968 (sheetBits (scheduleOf (ruleOf false) (jobOf job))) ⌝ }
-    ensures { λ r. ⌜ now (sparing .exit) ≡ bytes 40968 (sheetBits (scheduleOf (ruleOf true) (jobOf job))) ⌝ }
+    requires { ⌜ Fits job × (now short ≡ replicate 40968 0) × (now sparing ≡ replicate 40968 0) ⌝ }
+    ensures { λ r. ⌜ (r ≡ plansOf (jobOf job)) × (now (short .exit) ≡ bytes 40968 (sheetBits (scheduleOf (ruleOf Short) (jobOf job))))
+        × (now (sparing .exit) ≡ bytes 40968 (sheetBits (scheduleOf (ruleOf Sparing) (jobOf job)))) ⌝ }
 {
     let n = job.count;
+    let disks = job.disks;
     let all = job.refs;
     let disk = job.disk;
-    let slots = job.slots;
+    let every = job.slots;
     let refs = &all[..n];
-    let mut first: Firsts = [0; 512];
-    let mut again: Agains = [0; 2048];
-    let mut follow: Agains = [0; 2048];
-    let mut heads: Heads = [0; 8];
-    lookup::index(refs, &mut first, &mut again);
-    lookup::chain(refs, &disk, &mut follow, &mut heads);
-    let disks = job.disks;
-    let blocks = job.blocks;
-    let a = write_plan(
-        disks,
-        &slots,
-        blocks,
-        &disk,
+    let slots = &every[..disks];
+    let mut desk: Desk = [[0; 512]; 4];
+    let mut steps: Steps = [[0; 2048]; 2];
+    lookup::open(refs, &disk, &mut desk, &mut steps);
+    let none = Buffers::empty();
+    let mut first = desk;
+    let a = drive(none, n, slots, refs, Rule::Short, &steps, &mut first, short);
+    let b = drive(
+        none,
+        n,
+        slots,
         refs,
-        false,
-        &again,
-        &follow,
-        first,
-        heads,
-        short,
-    );
-    let b = write_plan(
-        disks,
-        &slots,
-        blocks,
-        &disk,
-        refs,
-        true,
-        &again,
-        &follow,
-        first,
-        heads,
+        Rule::Sparing,
+        &steps,
+        &mut desk,
         sparing,
     );
     Plans {

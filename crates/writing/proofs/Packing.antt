@@ -1,5 +1,5 @@
--- Fields joined into one number, and what a run of actions adds to a sheet. Assumes nothing.
-use mathlib.Core.Path.{_≡_, refl, sym, ap, ap₂, _∙_, subst}
+-- An action's bits are one field, and actions put one after the other on a clear sheet are their round's bits. Assumes nothing.
+use mathlib.Core.Path.{_≡_, refl, sym, ap, ap₂, _∙_}
 use mathlib.Core.List.{List, [], _∷_, _++_, append-assoc, append-nil}
 use Prim.Native.Nat.{ℕ, zero, suc, _+_, _-_, _*_, _/_, _%_, _^_, _≤_, _<_}
 use native.Mathlib.Nat.{zero-add, suc-add, zero-mul, add-comm}
@@ -20,7 +20,10 @@ use Rattle.model.specs.Sheet.{actionBits, roundBits}
 use Rattle.model.proofs.Bytes.{action-bits, round-bits}
 use Rattle.model.proofs.Longest.{length-action, length-round}
 use Rattle.model.proofs.Plans.{length-each}
-use Rattle.writing.specs.Writing.{actionOf, actionsIn}
+use Rattle.lookup.specs.Lookup.{Below}
+use Rattle.lookup.specs.Desk.{row, cell}
+use Rattle.lookup.proofs.Laws.{below-any}
+use Rattle.writing.specs.Writing.{actionOf, actionIn, actionsIn}
 
 -- two fields side by side are one
 pub digits-join : (a b x y : ℕ) → y < 2 ^ b → digits (a + b) (x * 2 ^ b + y) ≡ digits a x ++ digits b y
@@ -100,11 +103,11 @@ module _ (s : List ℕ) (at : ℕ) (clear : clearFrom at s) (room : at ≤ lengt
 
   pub put-clear : (m : List ℕ) → Bits m → at + length m ≤ length s * 8 → clearFrom (at + length m) (putBits s at m)
   put-clear m h l =
-      subst (λ (k : ℕ). clearFrom (at + length m) (putBits s at m)) (put-length m h l)
-      (clear-packed (length s) (at + length m) (before ++ m) (putBits s at m) (put-adds m h l)
-      (ap (λ (k : ℕ). k + length m) before-length ∙ sym (length-append before m)) (append-bits before m before-bits h) l)
+      clear-packed (length s) (at + length m) (before ++ m) (putBits s at m) (put-adds m h l)
+      (ap (λ (k : ℕ). k + length m) before-length ∙ sym (length-append before m)) (append-bits before m before-bits h) l
 
-  pub put-twice : (m o : List ℕ) → Bits m → Bits o → at + length m + length o ≤ length s * 8 → putBits (putBits s at m) (at + length m) o ≡ putBits s at (m ++ o)
+  pub put-twice : (m o : List ℕ) → Bits m → Bits o → at + length m + length o ≤ length s * 8
+      → putBits (putBits s at m) (at + length m) o ≡ putBits s at (m ++ o)
   put-twice m o h k l =
       put-packed (length s) (at + length m) (before ++ m) o (putBits s at m) (put-adds m h (omega arith))
       (ap (λ (k : ℕ). k + length m) before-length ∙ sym (length-append before m)) (append-bits before m before-bits h) k l
@@ -138,7 +141,8 @@ pub each-more : {A : Type 0} (f : ℕ → A) (i k : ℕ) → each f i (suc k) �
 unfolding each
 each-more f i zero = ap (λ (n : ℕ). f n ∷ []) (let e : i ≡ i + 0 = omega arith in e)
 each-more f i (suc k) =
-    ap (λ (l : List _). f i ∷ l) (each-more f (suc i) k ∙ ap (λ (n : ℕ). each f (suc i) k ++ (f n ∷ [])) (let e : suc i + k ≡ i + suc k = omega arith in e))
+    let e : suc i + k ≡ i + suc k = omega arith in
+    ap (λ (l : List _). f i ∷ l) (each-more f (suc i) k ∙ ap (λ (n : ℕ). each f (suc i) k ++ (f n ∷ [])) e)
 
 pub round-append : (l m : List Action) → roundBits (l ++ m) ≡ roundBits l ++ roundBits m
 unfolding roundBits
@@ -149,56 +153,73 @@ round-one : (a : Action) → roundBits (a ∷ []) ≡ actionBits a
 unfolding roundBits
 round-one a = append-nil (actionBits a)
 
+-- What a round is written with: rows of at most 512, of few disks, and a sheet that is clear from `start` on and has room there.
+pub record Ready (s : List ℕ) (start : ℕ) (acts : List (List ℕ)) (disks : ℕ) : Type 0 where
+  pub few : disks ≤ 8
+  pub fetched : Below 513 (row acts 0)
+  pub discarded : Below 513 (row acts 1)
+  pub room : start + 192 ≤ length s * 8
+  pub near : start < 350000
+  pub clear : clearFrom start s
+
 -- The sheet and the bit after it, once the actions of the disks below d are written from `start` on.
-pub record Wrote (s : List ℕ) (start : ℕ) (fetched discarded : List ℕ) (d : ℕ) (sheet : List ℕ) (at : ℕ) : Type 0 where
-  pub bits : sheet ≡ putBits s start (roundBits (actionsIn fetched discarded d))
-  pub place : at ≡ start + length (roundBits (actionsIn fetched discarded d))
+pub record Wrote (s : List ℕ) (start : ℕ) (acts : List (List ℕ)) (disks d : ℕ) (sheet : List ℕ) (at : ℕ) : Type 0 where
+  pub ready : Ready s start acts disks
+  pub below : d ≤ disks
+  pub bits : sheet ≡ putBits s start (roundBits (actionsIn acts d))
+  pub place : at ≡ start + length (roundBits (actionsIn acts d))
 
-module _ (s : List ℕ) (start : ℕ) (clear : clearFrom start s) (fetched discarded : List ℕ) where
-  few : (d : ℕ) → length (roundBits (actionsIn fetched discarded d)) ≤ d * 20
+module _ (acts : List (List ℕ)) (d : ℕ) where
+  -- the bits of d disks are few, and those of the next disk's action come after them
+  most : length (roundBits (actionsIn acts d)) ≤ d * 20
   unfolding actionsIn
-  few d =
-      let l = length-round (each (λ e. actionOf (getD fetched e 0) (getD discarded e 0)) 0 d) in
-      let n = length-each (λ e. actionOf (getD fetched e 0) (getD discarded e 0)) 0 d in
-      omega (arith, l, n)
+  most = omega (arith, length-round (each (actionIn acts) 0 d), length-each (actionIn acts) 0 d)
 
-  one-more : (d : ℕ) → roundBits (actionsIn fetched discarded d) ++ actionBits (actionOf (getD fetched d 0) (getD discarded d 0)) ≡ roundBits (actionsIn fetched discarded (d + 1))
+  one-more : roundBits (actionsIn acts d) ++ actionBits (actionIn acts d) ≡ roundBits (actionsIn acts (d + 1))
   unfolding actionsIn
-  one-more d =
-      let f : ℕ → Action = λ e. actionOf (getD fetched e 0) (getD discarded e 0) in
+  one-more =
+      let f : ℕ → Action = actionIn acts in
       sym (ap (λ (n : ℕ). roundBits (each f 0 n)) (add-one d) ∙ ap roundBits (each-more f 0 d) ∙ round-append (each f 0 d) (f (0 + d) ∷ [])
       ∙ ap (λ (x : List ℕ). roundBits (each f 0 d) ++ x) (round-one (f (0 + d)) ∙ ap (λ (n : ℕ). actionBits (f n)) (zero-add d)))
 
-  pub wrote-start : Wrote s start fetched discarded 0 s start
-  unfolding actionsIn roundBits putBits
-  wrote-start = record { bits = refl; place = omega arith }
+pub wrote-start : {s : List ℕ} {start : ℕ} {acts : List (List ℕ)} {disks : ℕ} → Ready s start acts disks → Wrote s start acts disks 0 s start
+unfolding actionsIn roundBits putBits
+wrote-start r = record { ready = r; below = omega arith; bits = refl; place = omega arith }
 
-  module _ (d : ℕ) (sheet : List ℕ) (at : ℕ) (w : Wrote s start fetched discarded d sheet at) (room : start + d * 20 ≤ length s * 8) where
-    pub wrote-clear : clearFrom at sheet
-    wrote-clear =
-        let l = few d in
-        subst (λ (x : List ℕ). clearFrom at x) (sym (w .bits)) (subst (λ (k : ℕ). clearFrom k (putBits s start (roundBits (actionsIn fetched discarded d)))) (sym (w .place))
-        (put-clear s start clear (omega arith) (roundBits (actionsIn fetched discarded d)) (round-bits-are _) (omega (arith, l))))
+module _ {s : List ℕ} {start : ℕ} {acts : List (List ℕ)} {disks d : ℕ} {sheet : List ℕ} {at : ℕ} (w : Wrote s start acts disks d sheet at) where
+  pub wrote-length : length sheet ≡ length s
+  wrote-length =
+      let before = roundBits (actionsIn acts d) in
+      ap length (w .bits) ∙ put-length s start (w .ready .clear) (omega arith) before (round-bits-are _) (omega (arith, most acts d))
 
-    pub wrote-length : length sheet ≡ length s
-    wrote-length =
-        let l = few d in
-        ap length (w .bits) ∙ put-length s start clear (omega arith) (roundBits (actionsIn fetched discarded d)) (round-bits-are _) (omega (arith, l))
+  -- the numbers of the next disk's action, and the place for its bits
+  pub wrote-small : (cell acts 0 d < 513) × (cell acts 1 d < 513)
+  wrote-small = (below-any 513 (row acts 0) (lit< tt) (w .ready .fetched) d, below-any 513 (row acts 1) (lit< tt) (w .ready .discarded) d)
 
-    pub wrote-most : at ≤ start + d * 20
-    wrote-most = let l = few d in let p = w .place in omega (arith, l, p)
+  pub wrote-clear : clearFrom at sheet
+  wrote-clear =
+      let before = roundBits (actionsIn acts d) in
+      rw (w .bits, w .place) (put-clear s start (w .ready .clear) (omega arith) before (round-bits-are _) (omega (arith, most acts d)))
 
-    pub wrote-more : start + d * 20 + 20 ≤ length s * 8 → (after : List ℕ) (next : ℕ)
-        → next ≡ at + length (actionBits (actionOf (getD fetched d 0) (getD discarded d 0)))
-        → after ≡ putBits sheet at (actionBits (actionOf (getD fetched d 0) (getD discarded d 0))) → Wrote s start fetched discarded (d + 1) after next
-    wrote-more more after next p q =
-        let a = actionOf (getD fetched d 0) (getD discarded d 0) in
-        let before = roundBits (actionsIn fetched discarded d) in
-        let l = few d in
-        let k = length-action a in
-        let joined : before ++ actionBits a ≡ roundBits (actionsIn fetched discarded (d + 1)) = one-more d in
-        record {
-          bits = q ∙ ap (λ (x : List ℕ). putBits x at (actionBits a)) (w .bits) ∙ ap (λ (n : ℕ). putBits (putBits s start before) n (actionBits a)) (w .place)
-              ∙ put-twice s start clear (omega arith) before (actionBits a) (round-bits-are _) (action-bits-are a) (omega (arith, l, k)) ∙ ap (putBits s start) joined;
-          place = (let e = ap length joined in let f = length-append before (actionBits a) in let g = w .place in omega (arith, e, f, g, p));
-        }
+  pub wrote-room : d < disks → (at + 32 ≤ length sheet * 8) × (at < 400000)
+  wrote-room l = (omega (arith, most acts d, wrote-length), omega (arith, most acts d))
+
+  -- one more disk's action, and those of all disks
+  pub wrote-more : {after : List ℕ} {next : ℕ} → d < disks → next ≡ at + length (actionBits (actionIn acts d))
+      → after ≡ putBits sheet at (actionBits (actionIn acts d)) → Wrote s start acts disks (d + 1) after next
+  wrote-more l p q =
+      let a = actionIn acts d in
+      let before = roundBits (actionsIn acts d) in
+      let joined : before ++ actionBits a ≡ roundBits (actionsIn acts (d + 1)) = one-more acts d in
+      let twice = put-twice s start (w .ready .clear) (omega arith) before (actionBits a) (round-bits-are _) (action-bits-are a)
+      (omega (arith, most acts d, length-action a)) in
+      record {
+        ready = w .ready;
+        below = omega arith;
+        bits = q ∙ ap₂ (λ (x : List ℕ) (n : ℕ). putBits x n (actionBits a)) (w .bits) (w .place) ∙ twice ∙ ap (putBits s start) joined;
+        place = omega (arith, ap length joined, length-append before (actionBits a));
+      }
+
+  pub wrote-all : disks ≤ d
+      → (at ≡ start + length (roundBits (actionsIn acts disks))) × (sheet ≡ putBits s start (roundBits (actionsIn acts disks)))
+  wrote-all l = let e : d ≡ disks = omega arith in (rw e at (w .place), rw e at (w .bits))

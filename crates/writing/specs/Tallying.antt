@@ -5,10 +5,12 @@ use mathlib.Core.List.{List}
 use Prim.Native.Nat.{ℕ, zero, suc, _+_}
 use lib.Dec.{eqb}
 use lib.ListN.{getD, set}
+use Rattle.lookup.specs.Desk.{cell}
+use Rattle.writing.specs.Writing.{FETCHED}
 
 -- One fetch more for each disk below d that fetched a block; 512 is no block.
-unfoldable pub tallied : List ℕ → List ℕ → ℕ → List ℕ
-tallied fetches fetched zero = fetches
-tallied fetches fetched (suc d) =
-    let before = tallied fetches fetched d in
-    cond (eqb (getD fetched d 0) 512) before (set before d (getD before d 0 + 1))
+unfoldable pub tallied : List ℕ → List (List ℕ) → ℕ → List ℕ
+tallied fetches acts zero = fetches
+tallied fetches acts (suc d) =
+    let before = tallied fetches acts d in
+    cond (eqb (cell acts FETCHED d) 512) before (set before d (getD before d 0 + 1))

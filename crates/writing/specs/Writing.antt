@@ -1,16 +1,31 @@
--- A round's actions as two numbers a disk, the fetched and the discarded block; 512 is no block. Assumes nothing.
+-- A round's actions as rows with a column for each disk: the fetched and the discarded block, where 512 is no block, and the reason. Assumes nothing.
 use mathlib.Core.Bool.{cond}
 use mathlib.Core.List.{List}
 use Prim.Native.Nat.{ℕ}
 use lib.Dec.{eqb}
-use lib.ListN.{getD}
 use Rattle.model.specs.Playing.{Action, idle, fetch, replace}
 use Rattle.model.specs.Plans.{each}
+use Rattle.lookup.specs.Desk.{cell}
 
+-- The rows, by number as in the code.
+abbrev pub FETCHED : ℕ
+FETCHED = 0
+
+abbrev pub DISCARDED : ℕ
+DISCARDED = 1
+
+abbrev pub REASON : ℕ
+REASON = 2
+
+-- The action that a fetched and a discarded number are,
 unfoldable pub actionOf : ℕ → ℕ → Action
 actionOf fetched discarded = cond (eqb fetched 512) idle (cond (eqb discarded 512) (fetch fetched) (replace fetched discarded))
 
--- the actions of the disks below d
-unfoldable pub actionsIn : List ℕ → List ℕ → ℕ → List Action
-unfolding each
-actionsIn fetched discarded d = each (λ e. actionOf (getD fetched e 0) (getD discarded e 0)) 0 d
+-- that of a disk,
+abbrev pub actionIn : List (List ℕ) → ℕ → Action
+actionIn acts e = actionOf (cell acts FETCHED e) (cell acts DISCARDED e)
+
+-- and of all disks below d
+unfoldable pub actionsIn : List (List ℕ) → ℕ → List Action
+unfolding each actionOf
+actionsIn acts d = each (actionIn acts) 0 d

@@ -4,10 +4,21 @@ ghost use Prim.Native.Nat.{_+_, _*_, _/_, _≤_, _<_};
 ghost use lib.ListN.{length, getD};
 ghost use Rattle.bits.specs.Fields.{putBits, clearFrom};
 ghost use Rattle.lookup.specs.Lookup.{Below};
+ghost use Rattle.lookup.specs.Desk.{row};
 ghost use Rattle.model.specs.Sheet.{actionBits, roundBits};
 ghost use Rattle.writing.specs.Heading.{headed};
 ghost use Rattle.writing.specs.Tallying.{tallied};
-ghost use Rattle.writing.specs.Writing.{actionOf, actionsIn};
+ghost use Rattle.writing.specs.Writing.{FETCHED, DISCARDED, actionOf, actionsIn};
+
+// A round's actions, each disk's in its column: the fetched block and the discarded one, where 512 stands for no block, and the reason: 0 an empty
+// slot, 1 over the min-block, 2 the min-block is sooner, 3 waits, 4 none is missing. All are 512 before the first round.
+pub type Actions = [[u16; 8]; 3];
+
+pub const FETCHED: usize = 0;
+
+pub const DISCARDED: usize = 1;
+
+pub const REASON: usize = 2;
 
 // One action at the bit `at`; the bit after it. The number 512 stands for no block.
 fn put_action(sheet: &mut [u8], at: usize, fetched: usize, discarded: usize) -> usize
@@ -28,37 +39,36 @@ fn put_action(sheet: &mut [u8], at: usize, fetched: usize, discarded: usize) -> 
     at + 20
 }
 
-// The actions of all disks, in order.
-pub fn put_round(
-    sheet: &mut [u8],
-    start: usize,
-    disks: usize,
-    fetched: &[u16; 8],
-    discarded: &[u16; 8],
-) -> usize
-    requires { ⌜ (disks ≤ 8) × Below 513 (now fetched) × Below 513 (now discarded) ⌝ }
+// The actions of all disks, in order; the bit after them.
+pub fn put_round(sheet: &mut [u8], start: usize, disks: usize, acts: &Actions) -> usize
+    requires { ⌜ (disks ≤ 8) × Below 513 (row (now acts) FETCHED) × Below 513 (row (now acts) DISCARDED) ⌝ }
     requires { ⌜ (start + 192 ≤ length (now sheet) * 8) × (start < 350000) ⌝ }
     requires { ⌜ clearFrom start (now sheet) ⌝ }
-    ensures { λ r. ⌜ r ≡ start + length (roundBits (actionsIn (now (fetched .entry)) (now (discarded .entry)) disks)) ⌝ }
-    ensures { λ r. ⌜ now (sheet .exit) ≡ putBits (now (sheet .entry)) start (roundBits (actionsIn (now (fetched .entry)) (now (discarded .entry)) disks)) ⌝ }
+    ensures { λ r. ⌜ r ≡ start + length (roundBits (actionsIn (now (acts .entry)) disks)) ⌝ }
+    ensures { λ r. ⌜ now (sheet .exit) ≡ putBits (now (sheet .entry)) start (roundBits (actionsIn (now (acts .entry)) disks)) ⌝ }
 {
     let mut at = start;
     let mut d = 0;
     while d < disks {
-        at = put_action(sheet, at, fetched[d] as usize, discarded[d] as usize);
+        at = put_action(
+            sheet,
+            at,
+            acts[FETCHED][d] as usize,
+            acts[DISCARDED][d] as usize,
+        );
         d += 1;
     }
     at
 }
 
-// One fetch more for each disk that fetched a block. The number 512 stands for no block.
-pub fn tally(fetches: &mut [u16; 8], disks: usize, fetched: &[u16; 8])
+// One fetch more for each disk that fetched a block.
+pub fn tally(fetches: &mut [u16; 8], disks: usize, acts: &Actions)
     requires { ⌜ (disks ≤ 8) × Below 65535 (now fetches) ⌝ }
-    ensures { λ _. ⌜ now (fetches .exit) ≡ tallied (now (fetches .entry)) (now (fetched .entry)) disks ⌝ }
+    ensures { λ _. ⌜ now (fetches .exit) ≡ tallied (now (fetches .entry)) (now (acts .entry)) disks ⌝ }
 {
     let mut d = 0;
     while d < disks {
-        if fetched[d] != 512 {
+        if acts[FETCHED][d] != 512 {
             fetches[d] += 1;
         }
         d += 1;

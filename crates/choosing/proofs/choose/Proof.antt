@@ -1,54 +1,82 @@
 -- `choose`: each return is the case of `chooseFrom` that its tests lead to. Assumes nothing.
-use mathlib.Core.Path.{_≡_, sym, _∙_}
-use mathlib.Core.Bool.{Bool, true, false, _&&_}
+use mathlib.Core.Path.{_≡_, sym, ap, _∙_}
+use mathlib.Core.Bool.{Bool, true, false}
 use mathlib.Core.List.{List}
-use Prim.Native.Nat.{ℕ, _+_, _-_, _≤_, _<_}
+use Prim.Native.Nat.{ℕ, _+_, _-_, _*_, _≤_, _<_}
 use native.Mathlib.Omega.{arith}
 use lib.Dec.{lit<}
 use lib.ListN.{length, getD}
 use borrow.Author.Needs.{needs}
 use borrow.Author.Tests.{le-leb, lt-leb, lt-ltb, le-ltb}
-use Rattle.bits.proofs.Logic.{and-true, and-false-left, and-false-right}
+use denote.Ref.{now}
+use Rattle.lookup.specs.Desk.{nexts, laters, helds, looks}
 use Rattle.lookup.proofs.Laws.{below-any}
 use Rattle.choosing.specs.declared.Choice.the-variants.{IntoEmpty, OverMinBlock, MinBlockSooner, Waits, NoneMissing}
-use Rattle.choosing.specs.Choosing.{lastPlace, someBeyond, chooseFull, chooseFrom}
+use Rattle.choosing.specs.declared.Rule.{Rule}
+use Rattle.choosing.specs.Choosing.{lastPlace, someBeyond, alsoIdle, chooseFull, chooseFrom}
 use Rattle.choosing.proofs.Scanning.{last-within}
 use Rattle.choosing.proofs.choose.Statement.{statement}
 use Rattle.choosing.proofs.choose.Tie as tie
-use Rattle.choosing.proofs.choose.Reads as reads
-use Rattle.choosing.proofs.choose.Lts as lts
-use Rattle.lookup.proofs.at.Reads as at-reads
-use Rattle.choosing.proofs.last.Reads as last-reads
-use Rattle.choosing.proofs.some_later.Reads as some-later-reads
 
-module _ (refs : List ℕ) (look : ℕ) (residents : List ℕ) (base count slots : ℕ) (next later : List ℕ) (sparing : Bool) where
-  none : length refs ≤ look → NoneMissing ≡ chooseFrom refs look residents base count slots next later sparing
+-- the cases, where the pointer of the disk stands at `look`
+module _ (refs : List ℕ) (rule : Rule) (d count slots : ℕ) (desk : List (List ℕ)) (look : ℕ) (at : look ≡ getD (looks desk) d 0) where
+  none : length refs ≤ look → NoneMissing ≡ chooseFrom refs rule d count slots desk
   unfolding chooseFrom
-  none h = rw (le-leb (length refs) look h)
+  none past = rw (← at, le-leb (length refs) look past)
 
-  into : look < length refs → count < slots → IntoEmpty (getD refs look 0) ≡ chooseFrom refs look residents base count slots next later sparing
+  into : look < length refs → count < slots → IntoEmpty (getD refs look 0) (d * 64 + count) ≡ chooseFrom refs rule d count slots desk
   unfolding chooseFrom
-  into h l = rw (lt-leb (length refs) look h, lt-ltb count slots l)
+  into more room = rw (← at, lt-leb (length refs) look more, lt-ltb count slots room)
 
-  module _ (h : look < length refs) (l : slots ≤ count) (place far : ℕ) (p : place ≡ lastPlace residents next base (count - 1)) (f : far ≡ getD next (getD residents place 0) 0) where
-    full : chooseFrom refs look residents base count slots next later sparing ≡ chooseFull residents next later sparing look (getD refs look 0) base count place
-    unfolding chooseFrom
-    full = rw (lt-leb (length refs) look h, le-ltb count slots l, p)
+  full : look < length refs → slots ≤ count → (place : ℕ) → place ≡ lastPlace (helds desk) (nexts desk) (d * 64) (count - 1)
+      → chooseFrom refs rule d count slots desk ≡ chooseFull rule desk look (getD refs look 0) (d * 64) count place
+  unfolding chooseFrom
+  full more taken place last = rw (← at, lt-leb (length refs) look more, le-ltb count slots taken, last)
 
-    sooner : far < look → MinBlockSooner ≡ chooseFrom refs look residents base count slots next later sparing
+-- with full slots, where the min-block stands at `place` and has the distance `far`
+module _ (rule : Rule) (desk : List (List ℕ)) (look u base count place far : ℕ) (at : far ≡ getD (nexts desk) (getD (helds desk) place 0) 0) where
+  sooner : far < look → chooseFull rule desk look u base count place ≡ MinBlockSooner
+  unfolding chooseFull
+  sooner less = rw (← at, lt-ltb far look less)
+
+  module _ (more : look ≤ far) (waits : Bool) (is : waits ≡ alsoIdle rule (someBeyond (helds desk) (laters desk) far base count)) where
+    idle : waits ≡ true → chooseFull rule desk look u base count place ≡ Waits
     unfolding chooseFull
-    sooner s = sym (full ∙ (rw (← f) (rw (lt-ltb far look s))))
+    idle so = rw (← at, le-ltb far look more, ← is, so)
 
-    waits : look ≤ far → sparing ≡ true → someBeyond residents later far base count ≡ true → Waits ≡ chooseFrom refs look residents base count slots next later sparing
+    over : waits ≡ false → chooseFull rule desk look u base count place ≡ OverMinBlock u place
     unfolding chooseFull
-    waits s e b = sym (full ∙ (rw (← f) (rw (le-ltb far look s, and-true {a = sparing} e b))))
+    over so = rw (← at, le-ltb far look more, ← is, so)
 
-    over : look ≤ far → sparing && someBeyond residents later far base count ≡ false → OverMinBlock (getD refs look 0) place ≡ chooseFrom refs look residents base count slots next later sparing
-    unfolding chooseFull
-    over s e = sym (full ∙ (rw (← f) (rw (le-ltb far look s, e))))
+-- the way back from the call of `last` to the start; the place that it found, the distance there, and the case that this is
+abbrev start : tie.After-last → tie.Start
+start c = c .before .before .before .before .before .before
+
+place-within : (c : tie.After-last) → c .last .result < 512
+place-within c =
+    let a = start c .args in
+    let within = last-within (helds (now (a .desk))) (nexts (now (a .desk))) (a .d * 64) (a .count - 1) in
+    omega (arith, within, c .last .ensures)
+
+far-is : (c : tie.After-at3)
+    → let desk = now (start (c .before .before) .args .desk) in
+    c .at3 .result ≡ getD (nexts desk) (getD (helds desk) (c .before .before .last .result) 0) 0
+far-is c = c .at3 .ensures ∙ ap (λ (b : ℕ). getD (nexts (now (start (c .before .before) .args .desk))) b 0) (c .before .at2 .ensures)
+
+full-slots : (c : tie.After-last)
+    → let a = start c .args in
+    let look = c .before .before .before .before .at .result in
+    chooseFrom (now (a .refs)) (a .rule) (a .d) (a .count) (a .slots) (now (a .desk))
+    ≡ chooseFull (a .rule) (now (a .desk)) look (getD (now (a .refs)) look 0) (a .d * 64) (a .count) (c .last .result)
+full-slots c =
+    let at = c .before .before .before .before .at in
+    full _ _ _ _ _ _ (at .result) (at .ensures) (c .before .before .before .if1 .left) (c .before .if2 .left) (c .last .result) (c .last .ensures)
+
+at-requires : tie.Need-at-requires
+at-requires c κs = search needs
 
 returns : tie.Need-returns
-returns c = none _ _ _ _ _ _ _ _ _ (c .if1 .taken)
+returns c = none _ _ _ _ _ _ (c .before .at .result) (c .before .at .ensures) (c .if1 .taken)
 
 mul-u : tie.Need-mul-u
 mul-u c = search needs
@@ -57,63 +85,66 @@ shared-slice-read-u : tie.Need-shared-slice-read-u
 shared-slice-read-u c = search needs
 
 cast-u : tie.Need-cast-u
-cast-u c = record { fits = omega (arith, c .shared-slice-known2 .given (c .before .before .before .args .look)) }
+cast-u c = record { fits = omega (arith, c .shared-slice-known2 .given (c .before .before .at .result)) }
+
+mul-base : tie.Need-mul-base
+mul-base c = search needs
+
+add-t16 : tie.Need-add-t16
+add-t16 c = search needs
 
 returns-2 : tie.Need-returns-2
-returns-2 c = into _ _ _ _ _ _ _ _ _ (c .before .before .if1 .left) (c .if2 .taken)
+returns-2 c =
+    let at = c .before .before .before .at in
+    into _ _ _ _ _ _ (at .result) (at .ensures) (c .before .before .if1 .left) (c .if2 .taken)
 
 last-requires : tie.Need-last-requires
 last-requires c κs = search needs
 
--- the place of the min-block is one of the residents'
-place-within : (residents next : List ℕ) (base count place : ℕ) → 1 ≤ count → base + count ≤ 512 → place ≡ lastPlace residents next base (count - 1) → place < 512
-place-within residents next base count place s l e = let w = last-within residents next base (count - 1) in omega (arith, w, e)
+at-requires-2 : tie.Need-at-requires-2
+at-requires-2 c κs = (omega arith, place-within c)
 
-mul-v : tie.Need-mul-v
-mul-v c = record { fits = (let p = place-within _ _ _ _ _ (let s = c .before .before .before .before .before .pre .0 in let f = c .before .if2 .left in omega (arith, s, f)) (c .before .before .before .before .before .pre .1) (c .last .ensures) in omega (arith, p)) }
-
-element-copy-out-v : tie.Need-element-copy-out-v
-element-copy-out-v c = place-within _ _ _ _ _ (let s = c .before .before .before .before .before .pre .0 in let f = c .before .if2 .left in omega (arith, s, f)) (c .before .before .before .before .before .pre .1) (c .last .ensures)
-
-cast-v : tie.Need-cast-v
-cast-v c =
-    let few = below-any 512 (c .before .before .before .before .before .before .args .residents .now) (lit< tt) (c .before .before .before .before .before .before .pre .2) (c .before .last .result) in
-    record { fits = omega (arith, few) }
-
-at-requires : tie.Need-at-requires
-at-requires c κs = below-any 512 (c .before .before .before .before .before .before .args .residents .now) (lit< tt) (c .before .before .before .before .before .before .pre .2) (c .before .last .result)
+at-requires-3 : tie.Need-at-requires-3
+at-requires-3 c κs =
+    let e = start (c .before) in
+    let block = below-any 512 (helds (now (e .args .desk))) (lit< tt) (e .pre .1 .1) (c .before .last .result) in
+    (omega arith, omega (arith, block, c .at2 .ensures))
 
 returns-3 : tie.Need-returns-3
-returns-3 c = sooner _ _ _ _ _ _ _ _ _ (c .before .before .before .before .before .before .if1 .left) (c .before .before .before .before .if2 .left) (c .before .before .before .last .result) (c .before .at .result) (c .before .before .before .last .ensures) (c .before .at .ensures) (c .if3 .taken)
+returns-3 c =
+    sym (full-slots (c .before .before .before) ∙ sooner _ _ _ _ _ _ _ (c .before .at3 .result) (far-is (c .before)) (c .if3 .taken))
 
-some-later-requires : tie.Need-some-later-requires
-some-later-requires c κs = search needs
+waits-requires : tie.Need-waits-requires
+waits-requires c κs = search needs
 
 returns-4 : tie.Need-returns-4
-returns-4 c = waits _ _ _ _ _ _ _ _ _ (c .before .before .before .before .before .before .before .before .before .if1 .left) (c .before .before .before .before .before .before .before .if2 .left) (c .before .before .before .before .before .before .last .result) (c .before .before .before .before .at .result) (c .before .before .before .before .before .before .last .ensures) (c .before .before .before .before .at .ensures) (c .before .before .before .if3 .left) (c .before .before .if4 .taken) (sym (c .before .some-later .ensures) ∙ c .if5 .taken)
+returns-4 c =
+    let found = c .before .before .before in
+    sym (full-slots (found .before .before)
+    ∙ idle _ _ _ _ _ _ _ (found .at3 .result) (far-is found) (c .before .before .if3 .left) _ (c .before .waits .ensures) (c .if4 .taken))
 
 returns-5 : tie.Need-returns-5
-returns-5 c = over _ _ _ _ _ _ _ _ _ (c .before .before .before .before .before .before .before .before .before .if1 .left) (c .before .before .before .before .before .before .before .if2 .left) (c .before .before .before .before .before .before .last .result) (c .before .before .before .before .at .result) (c .before .before .before .before .before .before .last .ensures) (c .before .before .before .before .at .ensures) (c .before .before .before .if3 .left) (and-false-right (c .before .before .before .before .before .before .before .before .before .before .before .args .sparing) (sym (c .before .some-later .ensures) ∙ c .if5 .left))
-
-returns-6 : tie.Need-returns-6
-returns-6 c = over _ _ _ _ _ _ _ _ _ (c .before .before .before .before .before .before .before .if1 .left) (c .before .before .before .before .before .if2 .left) (c .before .before .before .before .last .result) (c .before .before .at .result) (c .before .before .before .before .last .ensures) (c .before .before .at .ensures) (c .before .if3 .left) (and-false-left _ (c .if4 .left))
+returns-5 c =
+    let found = c .before .before .before in
+    sym (full-slots (found .before .before)
+    ∙ over _ _ _ _ _ _ _ (found .at3 .result) (far-is found) (c .before .before .if3 .left) _ (c .before .waits .ensures) (c .if4 .left))
 
 pub choose-spec : {M : Type 1} → statement M
 choose-spec =
     tie.close
     (tie.spec
+    at-requires
     returns
     mul-u
     shared-slice-read-u
     cast-u
+    mul-base
+    add-t16
     returns-2
     last-requires
-    mul-v
-    element-copy-out-v
-    cast-v
-    at-requires
+    at-requires-2
+    at-requires-3
     returns-3
-    some-later-requires
+    waits-requires
     returns-4
-    returns-5
-    returns-6)
+    returns-5)

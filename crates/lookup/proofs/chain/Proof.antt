@@ -11,10 +11,10 @@ use Rattle.lookup.proofs.chain.Statement.{statement}
 use Rattle.lookup.proofs.chain.Tie as tie
 
 abbrev Inv-loop : tie.InvT-loop
-Inv-loop refs disk-of next-on₀ head₀ i₀ next-on head i = Done (refDisks disk-of refs) 8 i head next-on next-on₀
+Inv-loop refs disk-of first₀ again₀ i₀ first again i = Done (refDisks disk-of refs) 512 i first again again₀
 
 abbrev μ-loop : tie.MeasureT-loop
-μ-loop refs disk-of next-on₀ head₀ i₀ next-on head i = i
+μ-loop refs disk-of first₀ again₀ i₀ first again i = i
 
 position-requires : tie.Need-position-requires Inv-loop μ-loop
 position-requires c κs = omega arith
@@ -26,7 +26,7 @@ loop-holds c =
     let disks = now (a .disk-of) in
     let l = refDisks-length disks refs in
     let e = c .before .position .ensures in
-    done-start (refDisks disks refs) 8 (length refs) (c .before .position .result) (now (a .next-on)) (sym l) (omega (arith, l, e))
+    done-start (refDisks disks refs) 512 (length refs) (c .before .position .result) (now (a .again)) (sym l) (omega (arith, l, e))
 
 -- the reference that is passed is one of the list, its block is one of the 512, and that lies on a disk
 here : (c : tie.In-loop Inv-loop μ-loop) → c .before .loop .i - 1 < length (now (c .before .before .before .before .before .args .refs))
@@ -41,8 +41,11 @@ named c = c .before .before .before .before .before .pre .1 (c .before .loop .i 
 known : (c : tie.In-loop Inv-loop μ-loop)
     → getD (now (c .before .before .before .before .before .args .disk-of))
     (getD (now (c .before .before .before .before .before .args .refs)) (c .before .loop .i - 1) 0)
-    0 < 8
-known c = let s = c .before .before .before .before .before in below-any 8 (now (s .args .disk-of)) (omega arith) (s .pre .2) _
+    0 < 512
+known c =
+    let s = c .before .before .before .before .before in
+    let k = below-any 8 (now (s .args .disk-of)) (omega arith) (s .pre .2) (getD (now (s .args .refs)) (c .before .loop .i - 1) 0) in
+    omega (arith, k)
 
 sub-i : tie.Need-sub-i Inv-loop μ-loop
 sub-i c = omega arith
@@ -65,26 +68,26 @@ element-copy-out-disk c = named (c .before)
 cast-disk-2 : tie.Need-cast-disk-2 Inv-loop μ-loop
 cast-disk-2 c = omega (arith, known (c .before .before))
 
-mul-next-on : tie.Need-mul-next-on Inv-loop μ-loop
-mul-next-on c = omega (arith, known (c .before .before))
+mul-again : tie.Need-mul-again Inv-loop μ-loop
+mul-again c = omega (arith, known (c .before .before))
 
-element-copy-out-next-on : tie.Need-element-copy-out-next-on Inv-loop μ-loop
-element-copy-out-next-on c = known (c .before .before)
+element-copy-out-again : tie.Need-element-copy-out-again Inv-loop μ-loop
+element-copy-out-again c = known (c .before .before)
 
-mul-next-on-2 : tie.Need-mul-next-on-2 Inv-loop μ-loop
-mul-next-on-2 c = omega (arith, here (c .before .before .before))
+mul-again-2 : tie.Need-mul-again-2 Inv-loop μ-loop
+mul-again-2 c = omega (arith, here (c .before .before .before))
 
-element-write-next-on : tie.Need-element-write-next-on Inv-loop μ-loop
-element-write-next-on c = omega (arith, here (c .before .before .before))
+element-write-again : tie.Need-element-write-again Inv-loop μ-loop
+element-write-again c = omega (arith, here (c .before .before .before))
 
 position-requires-2 : tie.Need-position-requires-2 Inv-loop μ-loop
 position-requires-2 c κs = omega (arith, here (c .before .before .before))
 
-mul-head : tie.Need-mul-head Inv-loop μ-loop
-mul-head c = omega (arith, known (c .before .before .before .before))
+mul-first : tie.Need-mul-first Inv-loop μ-loop
+mul-first c = omega (arith, known (c .before .before .before .before))
 
-element-write-head : tie.Need-element-write-head Inv-loop μ-loop
-element-write-head c = known (c .before .before .before .before)
+element-write-first : tie.Need-element-write-first Inv-loop μ-loop
+element-write-first c = known (c .before .before .before .before)
 
 loop-less : tie.Need-loop-less Inv-loop μ-loop
 loop-less c = omega arith
@@ -96,8 +99,8 @@ loop-again c =
     let l = turn .before .loop in
     let refs = now (a .refs) in
     let disks = now (a .disk-of) in
-    done-back (refDisks disks refs) 8 (l .i - 1) (l .i) (c .position2 .result) (getD disks (getD refs (l .i - 1) 0) 0)
-    (l .head) (l .next-on) (now (a .next-on))
+    done-back (refDisks disks refs) 512 (l .i - 1) (l .i) (c .position2 .result) (getD disks (getD refs (l .i - 1) 0) 0)
+    (l .first) (l .again) (now (a .again))
     (l .inv) (omega arith) (c .position2 .ensures) (refDisks-at disks refs (l .i - 1) (here turn)) (known turn)
 
 returns : tie.Need-returns Inv-loop μ-loop
@@ -105,7 +108,7 @@ returns c =
     let a = c .before .before .before .before .before .args in
     let l = c .before .loop in
     let none : l .i ≡ 0 = omega arith in
-    done-end (refDisks (now (a .disk-of)) (now (a .refs))) 8 (l .head) (l .next-on) (now (a .next-on)) (rw none at (l .inv))
+    done-end (refDisks (now (a .disk-of)) (now (a .refs))) 512 (l .first) (l .again) (now (a .again)) (rw none at (l .inv))
 
 pub chain-spec : {M : Type 1} → statement M
 chain-spec =
@@ -122,13 +125,13 @@ chain-spec =
     mul-disk-2
     element-copy-out-disk
     cast-disk-2
-    mul-next-on
-    element-copy-out-next-on
-    mul-next-on-2
-    element-write-next-on
+    mul-again
+    element-copy-out-again
+    mul-again-2
+    element-write-again
     position-requires-2
-    mul-head
-    element-write-head
+    mul-first
+    element-write-first
     loop-less
     loop-again
     returns)

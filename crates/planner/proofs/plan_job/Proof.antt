@@ -1,7 +1,6 @@
 -- `planner::plan_job` meets its contract, for rooms that are too small and for rooms that are not. Assumes nothing.
 use native.Mathlib.Omega.{arith}
 use mathlib.Core.Path.{_∙_}
-use mathlib.Core.Bool.{true, false}
 use denote.Ref.{now}
 use Rattle.model.specs.Calls.{plannedOf}
 use Rattle.planner.proofs.Rooms.{gives-refused, gives-given, short-totals, sparing-totals, bits-fit, scratch-room, copied, job-refused, job-given, outcome-given}
@@ -15,6 +14,7 @@ use Rattle.planner.proofs.outcome.Reads as outcome-reads
 use Rattle.planner.proofs.refusal.Reads as refusal-reads
 use Rattle.planner.proofs.room_number.Reads as room-number-reads
 use Rattle.planning.proofs.run.Reads as run-reads
+use Rattle.choosing.specs.declared.Rule.the-variants.{Short, Sparing}
 
 slice-aggregate-run : tie.Need-slice-aggregate-run
 slice-aggregate-run c = search needs
@@ -30,14 +30,14 @@ add-m c =
     let e = c .before .before .before .before .before .before .before .before .before .before in
     let sound = e .pre .sound in
     let run = c .before .before .before .before .before .run .ensures in
-    bits-fit _ sound false _ (short-totals _ sound _ (run .0))
+    bits-fit _ sound Short _ (short-totals _ sound _ (run .0))
 
 add-n : tie.Need-add-n
 add-n c =
     let e = c .before .before .before .before .before .before .before .before .before .before .before in
     let sound = e .pre .sound in
     let run = c .before .before .before .before .before .before .run .ensures in
-    bits-fit _ sound true _ (sparing-totals _ sound _ (run .0))
+    bits-fit _ sound Sparing _ (sparing-totals _ sound _ (run .0))
 
 room-number-requires : tie.Need-room-number-requires
 room-number-requires c κs = search needs
@@ -61,8 +61,8 @@ copy-front-requires c κs =
     let e = c .before .before .before .before .before .before .before .before .before .before .before .before .before .before .before in
     let sound = e .pre .sound in
     let run = c .before .before .before .before .before .before .before .before .before .before .run .ensures in
-    let first = scratch-room _ sound false _ (short-totals _ sound _ (run .0)) _ (run .1 .0) in
-    let second = scratch-room _ sound true _ (sparing-totals _ sound _ (run .0)) _ (run .1 .1) in
+    let first = scratch-room _ sound Short _ (short-totals _ sound _ (run .0)) _ (run .1) in
+    let second = scratch-room _ sound Sparing _ (sparing-totals _ sound _ (run .0)) _ (run .2) in
     let left = c .before .before .if1 .left in
     let fits = job-given _ sound _ (run .0) _ _ _ (c .before .before .before .room-number .ensures) (omega (arith, left)) in
     (omega (arith, first, second), omega (arith, fits))
@@ -75,8 +75,8 @@ copy-front-requires-2 c κs =
     let e = c .before .before .before .before .before .before .before .before .before .before .before .before .before .before .before .before .before .before .before .before in
     let sound = e .pre .sound in
     let run = c .before .before .before .before .before .before .before .before .before .before .before .before .before .before .before .run .ensures in
-    let first = scratch-room _ sound false _ (short-totals _ sound _ (run .0)) _ (run .1 .0) in
-    let second = scratch-room _ sound true _ (sparing-totals _ sound _ (run .0)) _ (run .1 .1) in
+    let first = scratch-room _ sound Short _ (short-totals _ sound _ (run .0)) _ (run .1) in
+    let second = scratch-room _ sound Sparing _ (sparing-totals _ sound _ (run .0)) _ (run .2) in
     let left = c .before .before .before .before .before .before .before .if1 .left in
     let fits = job-given _ sound _ (run .0) _ _ _ (c .before .before .before .before .before .before .before .before .room-number .ensures) (omega (arith, left)) in
     (omega (arith, first, second), omega (arith, fits))
@@ -100,8 +100,8 @@ returns-2 c =
     let fits = job-given _ sound _ (run .0) _ _ _ (c .before .before .before .before .before .before .before .before .before .before .before .before .room-number .ensures) (omega (arith, left)) in
     gives-given _ (now (e .args .short)) (now (e .args .sparing)) _ _ _ _ (fits .0)
     (c .outcome .ensures ∙ outcome-given _ sound _ (run .0))
-    (copied _ sound false _ (short-totals _ sound _ (run .0)) _ _ _ (run .1 .0) (c .before .before .before .before .before .before .before .before .copy-front .ensures))
-    (copied _ sound true _ (sparing-totals _ sound _ (run .0)) _ _ _ (run .1 .1) (c .before .before .before .copy-front2 .ensures))
+    (copied _ sound Short _ (short-totals _ sound _ (run .0)) _ _ _ (run .1) (c .before .before .before .before .before .before .before .before .copy-front .ensures))
+    (copied _ sound Sparing _ (sparing-totals _ sound _ (run .0)) _ _ _ (run .2) (c .before .before .before .copy-front2 .ensures))
 
 pub plan-job-spec : {M : Type 1} → statement M
 plan-job-spec =

@@ -1,45 +1,60 @@
--- `planning::run` meets its contract: both plans start from the same tables. Assumes nothing.
+-- `run`: both plans are driven from the desk that `open` makes for empty buffers. Assumes nothing.
+use native.Mathlib.Omega.{arith}
 use borrow.Author.Needs.{needs}
-use Rattle.planning.proofs.Setting.{counted, refs-few, refs-small, setting-of, right-of, run-ends}
+use Rattle.choosing.specs.declared.Rule.the-variants.{Short, Sparing}
+use Rattle.planning.proofs.Opened.{refs-lent, slots-lent, refs-few, refs-small, drive-asks, drive-gives, run-gives}
 use Rattle.planning.proofs.run.Statement.{statement}
 use Rattle.planning.proofs.run.Tie as tie
-use Rattle.planning.proofs.run.Reads as reads
-use Rattle.planning.proofs.run.Lts as lts
-use Rattle.lookup.proofs.chain.Reads as chain-reads
-use Rattle.lookup.proofs.index.Reads as index-reads
-use Rattle.planning.proofs.write_plan.Reads as write-plan-reads
+
+-- the ways back: to the entry, to where the references and slots are lent, to the opened desk, to the empty buffers
+abbrev entry : tie.After-every2 → tie.Start
+entry c = c .before .before .before .before .before .before .before
+
+abbrev lent : tie.After-open → tie.After-every2
+lent c = c .before .before .before .before
+
+abbrev made : tie.After-empty → tie.After-open
+made c = c .before
+
+abbrev empty : tie.After-drive → tie.After-empty
+empty c = c .before .before .before .before
 
 array-share-prefix-all : tie.Need-array-share-prefix-all
 array-share-prefix-all c = search needs
 
 slice-aggregate-refs : tie.Need-slice-aggregate-refs
-slice-aggregate-refs c =
-    let e = c .before .before .before .before .before .before in
-    counted (e .args .job) (e .pre .0)
+slice-aggregate-refs c = let s = c .before .before .before .before .before .before in refs-lent (s .args .job) (s .pre .0)
 
-index-requires : tie.Need-index-requires
-index-requires c κs =
-    let e = c .before .before .before .before .before .before .before .before in
-    (refs-few (e .args .job) (e .pre .0), refs-small (e .args .job) (e .pre .0))
+array-share-prefix-every : tie.Need-array-share-prefix-every
+array-share-prefix-every c = search needs
 
-chain-requires : tie.Need-chain-requires
-chain-requires c κs =
-    let e = c .before .before .before .before .before .before .before .before .before .before .before .before in
-    (refs-few (e .args .job) (e .pre .0), refs-small (e .args .job) (e .pre .0), λ i l. e .pre .0 .smallDisk i)
+slice-aggregate-slots : tie.Need-slice-aggregate-slots
+slice-aggregate-slots c = let s = c .before .before .before .before .before .before .before in slots-lent (s .args .job) (s .pre .0)
 
-write-plan-requires : tie.Need-write-plan-requires
-write-plan-requires c κs =
-    let e = c .before .before .before .before .before .before .before .before .before .before .before .before .before .before .before .before .before .before in
-    let i = c .before .before .before .before .before .before .before .before .before .index .ensures in
-    let h = c .before .before .before .before .before .chain .ensures in
-    (setting-of (e .args .job) (e .pre .0) _ _ (i .1) (h .1), (right-of (e .args .job) (e .pre .0) _ _ (i .0) (h .0), e .pre .1 .0))
+open-requires : tie.Need-open-requires
+open-requires c κs =
+    let s = entry (c .before .before .before) in
+    (refs-few (s .args .job) (s .pre .0), refs-small (s .args .job) (s .pre .0), λ i l. s .pre .0 .smallDisk i)
 
-write-plan-requires-2 : tie.Need-write-plan-requires-2
-write-plan-requires-2 c κs =
-    let e = c .before .before .before .before .before .before .before .before .before .before .before .before .before .before .before .before .before .before .before .before .before .before .before .before .before .before in
-    let i = c .before .before .before .before .before .before .before .before .before .before .before .before .before .before .before .before .before .index .ensures in
-    let h = c .before .before .before .before .before .before .before .before .before .before .before .before .before .chain .ensures in
-    (setting-of (e .args .job) (e .pre .0) _ _ (i .1) (h .1), (right-of (e .args .job) (e .pre .0) _ _ (i .0) (h .0), e .pre .1 .1))
+empty-requires : tie.Need-empty-requires
+empty-requires c κs = search needs
+
+drive-requires : tie.Need-drive-requires
+drive-requires c κs =
+    let none = c .before .before .before in
+    let opened = made none .«open» .ensures in
+    let s = entry (lent (made none)) in
+    let asks = drive-asks (s .args .job) (s .pre .0) _ (none .empty .ensures) (opened .0) (opened .1) (s .pre .1) in
+    let rounds = asks .2 in
+    let disks = s .pre .0 .fewDisks in
+    (asks .0, asks .1, omega (arith, rounds, disks), asks .3)
+
+drive-requires-2 : tie.Need-drive-requires-2
+drive-requires-2 c κs =
+    let none = empty (c .before .before .before .before .before) in
+    let opened = made none .«open» .ensures in
+    let s = entry (lent (made none)) in
+    drive-asks (s .args .job) (s .pre .0) _ (none .empty .ensures) (opened .0) (opened .1) (s .pre .2)
 
 same-length : tie.Need-same-length
 same-length c = search needs
@@ -49,10 +64,17 @@ same-length-2 c = search needs
 
 returns : tie.Need-returns
 returns c =
-    let e = c .before .before .before .before .before .before .before .before .before .before .before .before .before .before .before .before .before .before .before .before .before .before .before .before .before .before .before .before .before in
-    let p = c .before .before .before .before .before .before .before .before .before .before .write-plan .ensures in
-    let q = c .before .before .write-plan2 .ensures in
-    run-ends (e .args .job) (e .pre .0) _ _ _ _ (p .0) (q .0) (p .1) (q .1)
+    let second = c .before .before in
+    let first = second .before .before .before .before .before .before in
+    let none = empty first in
+    let opened = made none .«open» .ensures in
+    let s = entry (lent (made none)) in
+    let a = first .drive .ensures in
+    let b = second .drive2 .ensures in
+    run-gives (s .args .job) (s .pre .0)
+    (drive-gives (s .args .job) (s .pre .0) Short (none .empty .ensures) (opened .0) (opened .1))
+    (drive-gives (s .args .job) (s .pre .0) Sparing (none .empty .ensures) (opened .0) (opened .1))
+    (a .0) (b .0) (a .1) (b .1)
 
 pub run-spec : {M : Type 1} → statement M
 run-spec =
@@ -60,10 +82,12 @@ run-spec =
     (tie.spec
     array-share-prefix-all
     slice-aggregate-refs
-    index-requires
-    chain-requires
-    write-plan-requires
-    write-plan-requires-2
+    array-share-prefix-every
+    slice-aggregate-slots
+    open-requires
+    empty-requires
+    drive-requires
+    drive-requires-2
     same-length
     same-length-2
     returns)

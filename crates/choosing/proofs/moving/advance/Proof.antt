@@ -1,24 +1,41 @@
--- `advance`: the pointer has moved from `look` to p. The measure is what is left of the references. Assumes nothing.
-use Prim.Native.Nat.{_-_, _<_}
+-- `advance`: the way from p on is the rest of the way from `look` on. The measure is what is left of the references. Assumes nothing.
+use mathlib.Core.Path.{_≡_, refl, sym, ap, _∙_}
+use Prim.Native.Nat.{ℕ, suc, _+_, _-_, _≤_, _<_}
 use native.Mathlib.Omega.{arith}
-use lib.ListN.{length}
+use lib.ListN.{length, getD}
 use borrow.Author.Tests.{not-true, not-false}
 use denote.Ref.{now}
-use Rattle.choosing.specs.Moving.{Moved}
-use Rattle.choosing.proofs.Pointing.{moved-none, moved-on}
+use Rattle.lookup.specs.Desk.{ofDisk}
+use Rattle.choosing.specs.Moving.{moveFrom}
+use Rattle.choosing.proofs.Moves.{move-step, move-missing, move-end}
 use Rattle.choosing.proofs.moving.advance.Statement.{statement}
 use Rattle.choosing.proofs.moving.advance.Tie as tie
 
 abbrev Inv-loop : tie.InvT-loop
-Inv-loop refs resident again follow later₀ look p₀ later p = Moved refs resident again follow later₀ look p later
+Inv-loop refs resident steps desk₀ look p₀ desk p =
+    (n : ℕ) × (length refs ≤ p + n) × (moveFrom refs resident steps n p desk ≡ moveFrom refs resident steps 2048 look desk₀)
 
 abbrev μ-loop : tie.MeasureT-loop
-μ-loop refs resident again follow later₀ look p₀ later p = length refs - p
+μ-loop refs resident steps desk₀ look p₀ desk p = length refs - p
+
+-- the way back from a turn of the loop to the start; the block of its reference is one of the 512, and the next reference of its disk is ahead
+abbrev start : tie.In-loop Inv-loop μ-loop → tie.Start Inv-loop μ-loop
+start t = t .before .before .before
+
+known : (t : tie.In-loop Inv-loop μ-loop) → getD (now (start t .args .refs)) (t .before .loop .p) 0 < 512
+known t = start t .pre .1 (t .before .loop .p) (omega arith)
+
+ahead : (t : tie.In-loop Inv-loop μ-loop)
+    → let next = getD (ofDisk (now (start t .args .steps))) (t .before .loop .p) 0 in
+    (t .before .loop .p < next) × (next ≤ length (now (start t .args .refs)))
+ahead t = start t .pre .2 (t .before .loop .p) (omega arith)
+
+-- and from the end of a turn to the turn
+abbrev turn : tie.After-after Inv-loop μ-loop → tie.In-loop Inv-loop μ-loop
+turn c = c .before .before .before .before .before .before
 
 loop-holds : tie.Need-loop-holds Inv-loop μ-loop
-loop-holds c =
-    let a = c .before .args in
-    moved-none (now (a .refs)) (now (a .resident)) (now (a .again)) (now (a .follow)) (now (a .later)) (a .look)
+loop-holds c = (2048, omega arith, refl)
 
 mul-if1 : tie.Need-mul-if1 Inv-loop μ-loop
 mul-if1 c = omega arith
@@ -27,43 +44,44 @@ shared-slice-read-if1 : tie.Need-shared-slice-read-if1 Inv-loop μ-loop
 shared-slice-read-if1 c = omega arith
 
 cast-if1 : tie.Need-cast-if1 Inv-loop μ-loop
-cast-if1 c = omega (arith, c .shared-slice-known2 .given (c .before .before .loop .p))
+cast-if1 c = omega (arith, known (c .before))
 
 element-copy-out-if1 : tie.Need-element-copy-out-if1 Inv-loop μ-loop
-element-copy-out-if1 c = c .before .before .before .before .pre .1 (c .before .before .loop .p) (omega arith)
+element-copy-out-if1 c = known (c .before)
 
 returns : tie.Need-returns Inv-loop μ-loop
-returns c = (c .before .before .before .before .loop .inv, λ _. not-true _ (c .if1 .taken))
+returns c =
+    let inv = c .before .before .before .before .loop .inv in
+    sym (move-missing _ _ _ (inv .0) _ _ (not-true _ (c .if1 .taken))) ∙ inv .2
 
 pass-requires : tie.Need-pass-requires Inv-loop μ-loop
-pass-requires c κs =
-    let l = c .before .before .before .before .before .loop in
-    (omega arith, omega arith, c .before .before .before .before .before .before .before .pre .1 (l .p) (omega arith))
+pass-requires c κs = (omega arith, omega arith, omega arith, known (c .before .before .before .before))
 
 after-requires : tie.Need-after-requires Inv-loop μ-loop
 after-requires c κs = omega arith
 
 loop-less : tie.Need-loop-less Inv-loop μ-loop
-loop-less c =
-    let start = c .before .before .before .before .before .before .before .before .before in
-    let p = c .before .before .before .before .before .before .before .loop .p in
-    let next = start .pre .2 p (omega arith) in
-    let e = c .after .ensures in
-    omega (arith, next, e)
+loop-less c = omega (arith, ahead (turn c), c .after .ensures)
 
 loop-again : tie.Need-loop-again Inv-loop μ-loop
 loop-again c =
-    let start = c .before .before .before .before .before .before .before .before .before in
-    let a = start .args in
-    let loop = c .before .before .before .before .before .before .before .loop in
-    let more : loop .p < length (now (a .refs)) = omega arith in
-    let next = start .pre .2 (loop .p) more in
-    rw (c .after .ensures, c .before .pass .ensures)
-    (moved-on (now (a .refs)) (now (a .resident)) (now (a .again)) (now (a .follow)) (now (a .later)) (a .look) (loop .p) (loop .later)
-    (loop .inv) more (not-false _ (c .before .before .before .if1 .left)) (next .1))
+    let args = start (turn c) .args in
+    let refs = now (args .refs) in
+    let resident = now (args .resident) in
+    let steps = now (args .steps) in
+    let l = turn c .before .loop in
+    let left = l .inv .0 - 1 in
+    let more = l .inv .1 in
+    let one : suc left ≡ l .inv .0 = omega (arith, more) in
+    let on = move-step refs resident steps left (l .p) (l .desk) (omega arith) (not-false _ (c .before .before .before .if1 .left)) in
+    rw (c .after .ensures, c .before .pass .ensures) (
+      left,
+      omega (arith, more, ahead (turn c)),
+      sym on ∙ ap (λ (n : ℕ). moveFrom refs resident steps n (l .p) (l .desk)) one ∙ l .inv .2,
+    )
 
 returns-2 : tie.Need-returns-2 Inv-loop μ-loop
-returns-2 c = (c .before .loop .inv, λ l. absurd (omega arith))
+returns-2 c = let inv = c .before .loop .inv in sym (move-end _ _ _ (inv .0) _ _ (omega arith)) ∙ inv .2
 
 pub advance-spec : {M : Type 1} → statement M
 advance-spec =

@@ -1,36 +1,28 @@
--- `move_on`: `advance`, and `lead` with what it found. Assumes nothing.
+-- `move_on`: `advance` from where the pointer stands, and `put` with what it found. Assumes nothing.
+use mathlib.Core.Path.{_∙_}
 use native.Mathlib.Omega.{arith}
 use borrow.Author.Needs.{needs}
-use Rattle.choosing.proofs.Pointing.{advanced}
+use Rattle.choosing.proofs.Moves.{stop-within, moved-on}
 use Rattle.choosing.proofs.moving.move_on.Statement.{statement}
 use Rattle.choosing.proofs.moving.move_on.Tie as tie
-use Rattle.choosing.proofs.moving.move_on.Reads as reads
-use Rattle.choosing.proofs.moving.move_on.Lts as lts
-use Rattle.choosing.proofs.moving.advance.Reads as advance-reads
-use Rattle.lookup.proofs.head_of.Reads as head-of-reads
-use Rattle.lookup.proofs.lead.Reads as lead-reads
 
-head-of-requires : tie.Need-head-of-requires
-head-of-requires c κs = search needs
+at-requires : tie.Need-at-requires
+at-requires c κs = search needs
 
 advance-requires : tie.Need-advance-requires
 advance-requires c κs = search needs
 
-lead-requires : tie.Need-lead-requires
-lead-requires c κs =
-    let m = c .before .advance .ensures .0 in
-    let h = c .before .before .head-of .ensures in
-    let l = m .within (let k = c .before .before .before .before .before .before .pre .0 .1 in omega (arith, h, k)) in
-    let few = c .before .before .before .before .before .before .pre .1 .0 in
-    (omega arith, omega (arith, l, few))
+put-requires : tie.Need-put-requires
+put-requires c κs =
+    let start = c .before .before .before .before .before .before in
+    let within = stop-within _ _ _ (start .pre .1 .2) 2048 _ _ _ _ (omega (arith, c .before .before .at .ensures)) (c .before .advance .ensures) in
+    (omega arith, omega arith, omega (arith, within))
 
 returns : tie.Need-returns
 returns c =
-    let a = c .before .before .advance .ensures in
-    let h = c .before .before .before .head-of in
-    let s = c .before .before .before .before .before .before .before .pre .0 in
-    advanced _ _ _ _ _ _ _ (h .result) (c .before .before .advance .result) _ _ (h .ensures) (a .0) (a .1) (c .lead .ensures)
-    (let l = s .2 in let k = s .0 in omega (arith, l, k))
+    let at = c .before .before .before .at in
+    let advance = c .before .before .advance in
+    c .put .ensures ∙ moved-on _ _ _ _ (at .result) _ (advance .result) _ (at .ensures) (advance .ensures)
 
 pub move-on-spec : {M : Type 1} → statement M
-move-on-spec = tie.close (tie.spec head-of-requires advance-requires lead-requires returns)
+move-on-spec = tie.close (tie.spec at-requires advance-requires put-requires returns)
