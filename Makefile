@@ -1,4 +1,4 @@
-# "make -s plan <TICKET" plans a ticket. "make" builds the archive, the program, the tools and the example; "make install" puts header, archive,
+# "make -s plan <TICKET" plans a ticket. "make" builds the archive, the program, the tools and the examples; "make install" puts header, archive,
 # pkg-config file and program below PREFIX. Archive and program are proved before they are written: that needs rt on the path and minutes.
 
 VERSION = 0.1.0

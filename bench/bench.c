@@ -1,4 +1,4 @@
-/* bench.c - what planning and checking cost, beside the reference.
+/* bench.c - what planning, checking and choosing cost, beside the reference.
  *
  * usage: bench [REPEATS [DATA]]
  * Times the library and the reference in turn on the same bytes, REPEATS times (default 31), and prints medians of times and of
@@ -14,8 +14,8 @@
 #include <string.h>
 #include <time.h>
 
-enum { MOST_REPEATS = 1001, CALLS = 4, ENOUGH = 100000 /* nanoseconds in one measurement, at least */ };
-enum call { PLAN, REF_PLAN, CHECK, REF_CHECK };
+enum { MOST_REPEATS = 1001, ENOUGH = 100000 /* nanoseconds in one measurement, at least */ };
+enum call { PLAN, REF_PLAN, CHECK, REF_CHECK, CHOOSE, REF_CHOOSE, CALLS };   /* each beside the reference's */
 
 static const double most_ratio[2] = {0.5, 1.0};   /* planning, checking */
 
@@ -73,7 +73,7 @@ static void make_job(const struct shape *s, struct ref_job *job)
         job->reference[i] = (uint16_t)draw_reference(&c, s, i);
 }
 
-/* ---- The four calls ---- */
+/* ---- The calls ---- */
 
 static struct {
     uint8_t ticket[REF_TICKET], sheet[2][REF_SHEET], other[2][REF_SHEET];
@@ -124,7 +124,24 @@ static unsigned ref_check_both(void)
     return number;
 }
 
-static unsigned (*const calls[CALLS])(void) = {plan, ref_plan_both, check, ref_check_both};
+/* Chooses between both sheets, the short plan's first. */
+static unsigned choose(void)
+{
+    uint8_t counts[PLANNER_CHOOSE_COUNTS];
+
+    return planner_choose(job.ticket, job.ticket_length, job.sheet[0], job.planned.sheet_length[0], job.sheet[1], job.planned.sheet_length[1],
+                          counts, sizeof counts);
+}
+
+static unsigned ref_choose_one(void)
+{
+    struct ref_chosen chosen;
+
+    return ref_choose(job.ticket, job.ticket_length, job.sheet[0], job.planned.sheet_length[0], job.sheet[1], job.planned.sheet_length[1],
+                      &chosen);
+}
+
+static unsigned (*const calls[CALLS])(void) = {plan, ref_plan_both, check, ref_check_both, choose, ref_choose_one};
 
 /* The shape's job, its ticket and its sheets; the library's sheets must be the reference's. */
 static void prepare(const struct shape *s)
@@ -174,28 +191,29 @@ static double median_of(double *values, unsigned how_many)
 
 struct result {
     double took[CALLS];        /* median nanoseconds; checking is one sheet's, the mean of both */
-    double ratio[2];           /* planning, checking: median of library / reference, each pair measured one after the other */
+    double ratio[CALLS / 2];   /* planning, checking, choosing: median of library / reference, each pair measured one after the other */
 };
 
-static struct result measure(const struct shape *s, unsigned repeats)
+/* The calls from one to another, the last left out. */
+static struct result measure(const struct shape *s, enum call from, enum call to, unsigned repeats)
 {
-    static double took[CALLS][MOST_REPEATS], ratio[2][MOST_REPEATS];
+    static double took[CALLS][MOST_REPEATS], ratio[MOST_REPEATS];
+    struct result result = {{0}, {0}};
     unsigned times[CALLS];
-    struct result result;
 
     prepare(s);
-    for (int c = 0; c < CALLS; c++)
+    for (int c = from; c < (int)to; c++)
         for (times[c] = 1; time_of((enum call)c, times[c]) * times[c] < ENOUGH;)
             times[c] *= 2;
     for (unsigned r = 0; r < repeats; r++)
-        for (int c = 0; c < CALLS; c++)
-            took[c][r] = time_of((enum call)c, times[c]) / (c >= CHECK ? 2 : 1);
-    for (int what = 0; what < 2; what++) {
+        for (int c = from; c < (int)to; c++)
+            took[c][r] = time_of((enum call)c, times[c]) / (c == CHECK || c == REF_CHECK ? 2 : 1);
+    for (int c = from; c < (int)to; c += 2) {
         for (unsigned r = 0; r < repeats; r++)
-            ratio[what][r] = took[2 * what][r] / took[2 * what + 1][r];
-        result.ratio[what] = median_of(ratio[what], repeats);
+            ratio[r] = took[c][r] / took[c + 1][r];
+        result.ratio[c / 2] = median_of(ratio, repeats);
     }
-    for (int c = 0; c < CALLS; c++)
+    for (int c = from; c < (int)to; c++)
         result.took[c] = median_of(took[c], repeats);
     return result;
 }
@@ -214,29 +232,56 @@ static void print_head(const char *first)
     printf("| %s | plan, us | reference | ratio | check, us | reference | ratio |\n|---|---|---|---|---|---|---|\n", first);
 }
 
-/* The jobs of full size: 8 disks, 512 blocks, 2,048 references. 1 if a ratio is above what is asked. */
-static int full_size(unsigned repeats)
+/* The jobs of full size: 8 disks, 512 blocks, 2,048 references. */
+enum { FULL_SIZE = 12 };
+
+static struct shape full_shape(unsigned k)
 {
     static const unsigned slots[] = {1, 4, 64};
+
+    return (struct shape){(enum pattern)(k / 3), 8, 512, 2048, slots[k % 3]};
+}
+
+static void print_full(const struct shape *s)
+{
+    printf("| %s, %u slot%s |", pattern_name[s->pattern], s->slots, s->slots == 1 ? "" : "s");
+}
+
+/* 1 if a ratio is above what is asked. */
+static int full_size(unsigned repeats)
+{
     double worst[2] = {0, 0};
 
     printf("Full size: 8 disks, 512 blocks, 2,048 references.\n\n");
     print_head("job");
-    for (int p = RANDOM; p <= CROWDED; p++) {
-        for (unsigned k = 0; k < 3; k++) {
-            struct shape s = {(enum pattern)p, 8, 512, 2048, slots[k]};
-            struct result r = measure(&s, repeats);
+    for (unsigned k = 0; k < FULL_SIZE; k++) {
+        struct shape s = full_shape(k);
+        struct result r = measure(&s, PLAN, CHOOSE, repeats);
 
-            printf("| %s, %u slot%s |", pattern_name[p], slots[k], slots[k] == 1 ? "" : "s");
-            print_row(&r);
-            for (int what = 0; what < 2; what++)
-                if (r.ratio[what] > worst[what])
-                    worst[what] = r.ratio[what];
-        }
+        print_full(&s);
+        print_row(&r);
+        for (int what = 0; what < 2; what++)
+            if (r.ratio[what] > worst[what])
+                worst[what] = r.ratio[what];
     }
     printf("\nHighest ratios: planning %.2f (at most %.1f asked), checking %.2f (at most %.1f).\n\n", worst[0], most_ratio[0],
            worst[1], most_ratio[1]);
     return worst[0] > most_ratio[0] || worst[1] > most_ratio[1];
+}
+
+/* The choice between both sheets of the same jobs. Nothing is asked of it. */
+static void choosing(unsigned repeats)
+{
+    printf("Choosing between both sheets of these jobs.\n\n| job | choose, us | reference | ratio |\n|---|---|---|---|\n");
+    for (unsigned k = 0; k < FULL_SIZE; k++) {
+        struct shape s = full_shape(k);
+        struct result r = measure(&s, CHOOSE, CALLS, repeats);
+
+        print_full(&s);
+        printf(" %.1f | %.1f | %.2f |\n", r.took[CHOOSE] / 1e3, r.took[REF_CHOOSE] / 1e3, r.ratio[CHOOSE / 2]);
+        fflush(stdout);
+    }
+    printf("\n");
 }
 
 /* Jobs that take a round or a few: the ticket and the tables cost more than the plan. Nothing is asked of them. */
@@ -247,7 +292,7 @@ static void few_rounds(unsigned repeats)
     print_head("job: disks, blocks, references, slots");
     for (unsigned k = 0; k < sizeof shapes / sizeof shapes[0]; k++) {
         const struct shape *s = &shapes[k];
-        struct result r = measure(s, repeats);
+        struct result r = measure(s, PLAN, CHOOSE, repeats);
 
         printf("| %s: %u, %u, %u, %u |", pattern_name[s->pattern], s->disks, s->blocks, s->references, s->slots);
         print_row(&r);
@@ -293,7 +338,7 @@ static void growth(const char *name, size_t which, const unsigned *values, unsig
         struct result r;
 
         *size[which] = *values;
-        r = measure(&s, repeats);
+        r = measure(&s, PLAN, CHOOSE, repeats);
         printf("| %u |", *values);
         print_row(&r);
         fprintf(data, "%u %.0f %.0f %.0f %.0f\n", *values, r.took[PLAN], r.took[REF_PLAN], r.took[CHECK], r.took[REF_CHECK]);
@@ -318,7 +363,7 @@ static void run_call(void *call)
 /* The deepest stack of one call, on a job of full size. */
 static void stacks(void)
 {
-    static const char *const name[CALLS] = {"planner_plan", "ref_plan", "planner_check", "ref_check"};
+    static const char *const name[CALLS] = {"planner_plan", "ref_plan", "planner_check", "ref_check", "planner_choose", "ref_choose"};
     const struct shape s = {THRASH, 8, 512, 2048, 64};
 
     prepare(&s);
@@ -338,6 +383,7 @@ int main(int argc, char **argv)
 
     must(repeats > 0 && repeats <= MOST_REPEATS && data != NULL, "usage: bench [REPEATS [DATA]]");
     slow = full_size(repeats);
+    choosing(repeats);
     few_rounds(repeats);
     reading(repeats);
     all_growth(repeats, data);

@@ -1,7 +1,8 @@
 /* fuzz.c - the library against the reference on bytes that libFuzzer makes (input.h has their form).
  *
- * An input is checked as a ticket with its sheet, and its ticket is planned; the sheets of a plan are checked too. Numbers, counts
- * and all lent bytes must be the reference's, with guard bytes around them, and no sheet that passes may beat a plan. */
+ * An input's first sheet is checked for its ticket, the choice is made between its two sheets, and its ticket is planned; the sheets of a plan
+ * are checked too, and the choice is made between them and between one of them and the first sheet. Numbers, counts and all lent bytes must be
+ * the reference's, with guard bytes around them, and no sheet that passes may beat a plan. */
 #include "../tests/draw.h"
 #include "input.h"
 #include <planner.h>
@@ -55,7 +56,7 @@ static void compare(struct lent *s, const char *what)
     free(s->want);
 }
 
-/* ---- The two calls ---- */
+/* ---- The three calls ---- */
 
 /* Demand 3, for a ticket that is accepted. */
 static bool unbeaten(const uint8_t *ticket, size_t n, const struct ref_counts *sheet)
@@ -74,9 +75,14 @@ static bool unbeaten(const uint8_t *ticket, size_t n, const struct ref_counts *s
     return good;
 }
 
-static void try_check(const struct input *in, const uint8_t *sheet, size_t sheet_length)
+struct sheet {
+    const uint8_t *at;
+    size_t len;
+};
+
+static void try_check(const struct input *in, struct sheet sheet)
 {
-    struct lent t = lend(in->ticket, in->ticket_length), s = lend(sheet, sheet_length), c = lend(NULL, in->counts_length);
+    struct lent t = lend(in->ticket, in->ticket_length), s = lend(sheet.at, sheet.len), c = lend(NULL, in->counts_length);
     uint16_t numbers[REF_CHECKED_NUMBERS];
     struct ref_counts counts;
     unsigned want = ref_check(t.want + GUARD, t.len, s.want + GUARD, s.len, &counts);
@@ -91,6 +97,26 @@ static void try_check(const struct input *in, const uint8_t *sheet, size_t sheet
     compare(&t, "the check's ticket");
     compare(&s, "the check's sheet");
     compare(&c, "the check's counts");
+}
+
+static void try_choose(const struct input *in, struct sheet first, struct sheet second)
+{
+    struct lent t = lend(in->ticket, in->ticket_length), c = lend(NULL, in->counts_length);
+    struct lent a = lend(first.at, first.len), b = lend(second.at, second.len);
+    uint16_t numbers[REF_CHOSEN_NUMBERS];
+    struct ref_chosen chosen;
+    unsigned want = ref_choose(t.want + GUARD, t.len, a.want + GUARD, a.len, b.want + GUARD, b.len, &chosen);
+    uint32_t have = planner_choose(t.have + GUARD, t.len, a.have + GUARD, a.len, b.have + GUARD, b.len, c.have + GUARD, c.len);
+
+    same_number(have, want, "the choice's number");
+    if (want == 0) {
+        ref_chosen_numbers(&chosen, numbers);
+        ref_fill_counts(numbers, REF_CHOSEN_NUMBERS, c.want + GUARD, c.len);
+    }
+    compare(&t, "the choice's ticket");
+    compare(&a, "the choice's first sheet");
+    compare(&b, "the choice's second sheet");
+    compare(&c, "the choice's counts");
 }
 
 static size_t room_for(size_t length, enum room room)
@@ -124,75 +150,105 @@ int LLVMFuzzerTestOneInput(const uint8_t *data, size_t size)
 {
     static uint8_t sheet[2][REF_SHEET];
     struct input in = input_of(data, size);
+    struct sheet first = {in.sheet[0], in.sheet_length[0]}, second = {in.sheet[1], in.sheet_length[1]}, plan[2];
     struct ref_planned planned;
 
-    try_check(&in, in.sheet, in.sheet_length);
+    try_check(&in, first);
+    try_choose(&in, first, second);
     if (ref_plan(in.ticket, in.ticket_length, sheet[0], REF_SHEET, sheet[1], REF_SHEET, &planned) != 0) {
         try_plan(&in, (const size_t[]){1, 1});
         return 0;
     }
     try_plan(&in, planned.sheet_length);
-    for (unsigned k = 0; k < 2; k++)
-        try_check(&in, sheet[k], planned.sheet_length[k]);
+    for (unsigned k = 0; k < 2; k++) {
+        plan[k] = (struct sheet){sheet[k], planned.sheet_length[k]};
+        try_check(&in, plan[k]);
+    }
+    try_choose(&in, plan[REF_P_MIN], plan[REF_P_CON]);
+    try_choose(&in, plan[REF_P_MIN], first);
+    try_choose(&in, first, plan[REF_P_CON]);
     return 0;
 }
 
 /* ---- Mutation ---- */
 
+/* The parts of an input while they are changed. */
+static struct {
+    uint8_t ticket[REF_TICKET + 64], sheet[2][REF_SHEET + 64];
+    size_t n, m[2];
+} parts;
+
 /* Puts an input together from its parts; 0 if they are more than most bytes. */
-static size_t put_together(uint8_t *data, size_t most, const uint8_t *ticket, size_t n, const uint8_t *sheet, size_t m)
+static size_t put_together(uint8_t *data, size_t most)
 {
-    if (HEAD + n + m > most)
+    size_t first = HEAD + parts.n, second = first + parts.m[0], end = second + parts.m[1];
+
+    if (end > most)
         return 0;
-    data[2] = (uint8_t)(n >> 8);
-    data[3] = (uint8_t)n;
-    memcpy(data + HEAD, ticket, n);
-    memcpy(data + HEAD + n, sheet, m);
-    return HEAD + n + m;
+    data[2] = (uint8_t)(parts.n >> 8);
+    data[3] = (uint8_t)parts.n;
+    data[4] = (uint8_t)(parts.m[0] >> 8);
+    data[5] = (uint8_t)parts.m[0];
+    memcpy(data + HEAD, parts.ticket, parts.n);
+    memcpy(data + first, parts.sheet[0], parts.m[0]);
+    memcpy(data + second, parts.sheet[1], parts.m[1]);
+    return end;
 }
 
-/* A sound ticket drawn by chance, with a sheet of it: one of its plans or a schedule drawn by chance. */
-static size_t fresh(struct chance *c, uint8_t *data, size_t most)
+/* A sheet of a job: one of its plans, or a schedule drawn by chance. Gives its length. */
+static size_t fresh_sheet(struct chance *c, const struct ref_job *job, uint8_t *sheet)
 {
     static struct ref_action schedule[REF_ROUNDS * REF_DISKS];
-    static uint8_t ticket[REF_TICKET], sheet[REF_SHEET];
-    static struct ref_job job;
     struct ref_counts counts;
     unsigned rounds, how = below(c, 4);
 
-    draw_job(c, &job);
     if (how < 2) {
-        ref_run(&job, (enum ref_rule)how, schedule, &counts);
+        ref_run(job, (enum ref_rule)how, schedule, &counts);
         rounds = counts.rounds;
     } else {
-        rounds = draw_schedule(c, &job, (enum ending)below(c, 3), schedule);
+        rounds = draw_schedule(c, job, (enum ending)below(c, 3), schedule);
         if (how == 3)
-            spoil_schedule(c, &job, schedule, rounds);
+            spoil_schedule(c, job, schedule, rounds);
     }
-    fill(c, data, 2);
-    return put_together(data, most, ticket, ref_write_ticket(&job, ticket, sizeof ticket), sheet,
-                        ref_write_sheet(schedule, rounds, job.disks, sheet, sizeof sheet));
+    return ref_write_sheet(schedule, rounds, job->disks, sheet, REF_SHEET);
 }
 
-/* Changes the ticket alone, the sheet alone, or all bytes as they stand; now and then a fresh job. */
+/* A sound ticket drawn by chance, with two sheets of it. */
+static size_t fresh(struct chance *c, uint8_t *data, size_t most)
+{
+    static struct ref_job job;
+
+    draw_job(c, &job);
+    parts.n = ref_write_ticket(&job, parts.ticket, sizeof parts.ticket);
+    for (unsigned k = 0; k < 2; k++)
+        parts.m[k] = fresh_sheet(c, &job, parts.sheet[k]);
+    fill(c, data, 2);
+    return put_together(data, most);
+}
+
+/* Changes the ticket alone, one sheet alone, or all bytes as they stand; now and then a fresh job. */
 size_t LLVMFuzzerCustomMutator(uint8_t *data, size_t size, size_t most, unsigned seed)
 {
-    static uint8_t ticket[REF_TICKET + 64], sheet[REF_SHEET + 64];
     struct chance c = chance_for(seed, 0);
     struct input in = input_of(data, size);
     unsigned how = below(&c, 16);
-    size_t n = in.ticket_length, m = in.sheet_length, made = 0;
+    bool fit = in.ticket_length <= sizeof parts.ticket && in.sheet_length[0] <= sizeof parts.sheet[0] && in.sheet_length[1] <= sizeof parts.sheet[1];
+    size_t made = 0;
 
     if (how == 0)
         made = fresh(&c, data, most);
-    else if (how < 11 && size >= HEAD && most >= HEAD && n <= sizeof ticket && m <= sizeof sheet) {
-        memcpy(ticket, in.ticket, n);
-        memcpy(sheet, in.sheet, m);
+    else if (how < 12 && size >= HEAD && fit) {
+        parts.n = in.ticket_length;
+        memcpy(parts.ticket, in.ticket, parts.n);
+        for (unsigned k = 0; k < 2; k++) {
+            parts.m[k] = in.sheet_length[k];
+            memcpy(parts.sheet[k], in.sheet[k], parts.m[k]);
+        }
         if (how < 6)
-            n = LLVMFuzzerMutate(ticket, n, sizeof ticket);
+            parts.n = LLVMFuzzerMutate(parts.ticket, parts.n, sizeof parts.ticket);
         else
-            m = LLVMFuzzerMutate(sheet, m, sizeof sheet);
-        made = put_together(data, most, ticket, n, sheet, m);
+            parts.m[how % 2] = LLVMFuzzerMutate(parts.sheet[how % 2], parts.m[how % 2], sizeof parts.sheet[0]);
+        made = put_together(data, most);
     }
     return made > 0 ? made : LLVMFuzzerMutate(data, size, most);
 }

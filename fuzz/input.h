@@ -1,29 +1,38 @@
-/* input.h - the bytes of one fuzz input: a head of four bytes, a ticket, a sheet.
+/* input.h - the bytes of one fuzz input: a head of six bytes, a ticket, two sheets.
  *
  *   byte 0    the length of the counts slices, modulo 46
  *   byte 1    the rooms: two bits for each buffer (enum room), short plan lowest
  *   byte 2-3  the ticket's length, most significant byte first, cut to what is there
- * The sheet is what comes after the ticket. */
+ *   byte 4-5  the first sheet's length, likewise
+ * The second sheet is what comes after the first. */
 #ifndef INPUT_H
 #define INPUT_H
 
 #include <stddef.h>
 #include <stdint.h>
 
-enum { HEAD = 4, COUNTS_LENGTHS = 46 };
+enum { HEAD = 6, COUNTS_LENGTHS = 46 };
 enum room { EXACT, ONE_SHORT, AMPLE, FIVE_BYTES };
 
 struct input {
     size_t counts_length;
     enum room room[2];
-    const uint8_t *ticket, *sheet;
-    size_t ticket_length, sheet_length;
+    const uint8_t *ticket, *sheet[2];
+    size_t ticket_length, sheet_length[2];
 };
+
+/* A length in the head, at most what is there. */
+static inline size_t length_at(const uint8_t *head, size_t most)
+{
+    size_t length = (size_t)head[0] << 8 | head[1];
+
+    return length < most ? length : most;
+}
 
 /* Takes an input apart; the parts of one that is shorter than the head are empty. */
 static inline struct input input_of(const uint8_t *data, size_t size)
 {
-    struct input in = {0, {EXACT, EXACT}, data, data, 0, 0};
+    struct input in = {0, {EXACT, EXACT}, data, {data, data}, 0, {0, 0}};
 
     if (size < HEAD)
         return in;
@@ -31,11 +40,11 @@ static inline struct input input_of(const uint8_t *data, size_t size)
     in.room[0] = (enum room)(data[1] & 3);
     in.room[1] = (enum room)(data[1] >> 2 & 3);
     in.ticket = data + HEAD;
-    in.ticket_length = (size_t)data[2] << 8 | data[3];
-    if (in.ticket_length > size - HEAD)
-        in.ticket_length = size - HEAD;
-    in.sheet = in.ticket + in.ticket_length;
-    in.sheet_length = size - HEAD - in.ticket_length;
+    in.ticket_length = length_at(data + 2, size - HEAD);
+    in.sheet[0] = in.ticket + in.ticket_length;
+    in.sheet_length[0] = length_at(data + 4, size - HEAD - in.ticket_length);
+    in.sheet[1] = in.sheet[0] + in.sheet_length[0];
+    in.sheet_length[1] = size - HEAD - in.ticket_length - in.sheet_length[0];
     return in;
 }
 

@@ -1,7 +1,8 @@
 /* seeds.c - the vectors of tests/vectors as inputs of the fuzz target.
  *
  * usage: seeds FOLDER FILE...
- * Each vector gives one input: its ticket, and its sheet; a plan has the sheets that it ends in, one input each. */
+ * Each vector gives inputs: a check its ticket with its sheet twice, a choice its ticket with both sheets, and a plan that is not refused its
+ * ticket with the two sheets that it ends in, in both orders; a refused plan gives its ticket with two empty sheets. */
 #include "input.h"
 
 #include <stdio.h>
@@ -22,10 +23,10 @@ static size_t put_hex(uint8_t *data, size_t size, const char *text)
     return size;
 }
 
-static void write_input(const char *folder, const char *ticket, const char *sheet)
+static void write_input(const char *folder, const char *ticket, const char *first, const char *second)
 {
     static uint8_t data[LINE];
-    size_t ticket_end = put_hex(data, HEAD, ticket), size = put_hex(data, ticket_end, sheet);
+    size_t ticket_end = put_hex(data, HEAD, ticket), first_end = put_hex(data, ticket_end, first), size = put_hex(data, first_end, second);
     char path[4096];
     FILE *file;
 
@@ -33,13 +34,15 @@ static void write_input(const char *folder, const char *ticket, const char *shee
     data[1] = (uint8_t)(written / 3);
     data[2] = (uint8_t)((ticket_end - HEAD) >> 8);
     data[3] = (uint8_t)(ticket_end - HEAD);
+    data[4] = (uint8_t)((first_end - ticket_end) >> 8);
+    data[5] = (uint8_t)(first_end - ticket_end);
     snprintf(path, sizeof path, "%s/%03u", folder, written++);
     file = fopen(path, "wb");
     if (file == NULL || fwrite(data, 1, size, file) != size || fclose(file) != 0)
         exit(2);
 }
 
-/* plan TICKET .. | SHEET | SHEET, plan TICKET .. = NUMBER, or check TICKET SHEET .. */
+/* plan TICKET .. | SHEET | SHEET, plan TICKET .. = NUMBER, check TICKET SHEET .., or choose TICKET SHEET SHEET .. */
 static void take_line(const char *folder, char *line)
 {
     char *call = strtok(line, " \n"), *ticket = strtok(NULL, " \n"), *sheet = strtok(NULL, " \n"), *word, *last[4] = {"-", "-", "-", "-"};
@@ -47,16 +50,23 @@ static void take_line(const char *folder, char *line)
     if (call == NULL || call[0] == '#' || ticket == NULL || sheet == NULL)
         return;
     if (strcmp(call, "check") == 0) {
-        write_input(folder, ticket, sheet);
+        write_input(folder, ticket, sheet, sheet);
+        return;
+    }
+    if (strcmp(call, "choose") == 0 && (word = strtok(NULL, " \n")) != NULL) {
+        write_input(folder, ticket, sheet, word);
         return;
     }
     while ((word = strtok(NULL, " \n")) != NULL) {
         memmove(last, last + 1, 3 * sizeof last[0]);
         last[3] = word;
     }
-    write_input(folder, ticket, strcmp(last[2], "|") == 0 ? last[3] : "-");
-    if (strcmp(last[2], "|") == 0)
-        write_input(folder, ticket, last[1]);
+    if (strcmp(last[2], "|") == 0) {
+        write_input(folder, ticket, last[3], last[1]);
+        write_input(folder, ticket, last[1], last[3]);
+    } else {
+        write_input(folder, ticket, "-", "-");
+    }
 }
 
 int main(int argc, char **argv)

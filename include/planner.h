@@ -6,16 +6,18 @@
  *   planner_plan    makes two plans of a job: the short one (P-MIN), which takes the fewest rounds, and the sparing one (P-CON), which takes the
  *                   fewest fetches on every disk; and says which one to run: the sparing one exactly when both take equally many rounds.
  *   planner_check   passes a sheet exactly if it is a valid schedule of the ticket, whoever drew it up.
+ *   planner_choose  checks two sheets for a ticket, whoever drew them up, and hands back the second if it takes no more rounds than the first,
+ *                   otherwise the first.
  *   planner_why     gives the sentence for a number that they return. It is plain C, in this header, and not proved.
  *
  * A ticket is a job as bytes, a sheet a schedule as bytes. No sheet that planner_check passes for a ticket takes fewer rounds than the short plan,
  * or on any disk fewer fetches than the sparing plan. This, each result and every byte written are proved of the source; the compiler is trusted.
  *
- * Rules for planner_plan and planner_check:
+ * Rules for planner_plan, planner_check and planner_choose:
  *   - Each slice is a pointer and a length in bytes. A pointer may be null only with the length 0.
- *   - Slices that a call writes must not overlap each other or any other slice of the call.
+ *   - Slices that a call writes must not overlap each other or any other slice of the call. Slices that it only reads may be the same memory.
  *   - The calls keep nothing, allocate nothing, and may be made from several threads at once. A planning call takes some 160 KB of stack,
- *     a check some 16 KB (measured; bench/ has the figures).
+ *     a check or a choice some 12 KB (measured; bench/ has the figures).
  *   - A call returns 0, or the number of its refusal (enum planner_number). A refused call changes no lent byte.
  */
 #ifndef PLANNER_H
@@ -33,11 +35,12 @@ extern "C" {
 #define PLANNER_LONGEST_SHEET 40962   /* no sheet that passes is longer: a buffer of this size holds any plan */
 #define PLANNER_PLAN_COUNTS 40        /* what planner_plan writes to `counts` */
 #define PLANNER_CHECK_COUNTS 18       /* what planner_check writes to `counts` */
+#define PLANNER_CHOOSE_COUNTS 4       /* what planner_choose writes to `counts` */
 
 /* Why a call is refused; planner_why has the sentence for each. Fields are read in order, and the first condition that is met counts. */
 enum planner_number {
     PLANNER_OK = 0,
-    /* the ticket, in either call */
+    /* the ticket, in every call */
     PLANNER_TICKET_ENDS = 1,
     PLANNER_TICKET_DISKS = 2,
     PLANNER_TICKET_SLOTS = 3,
@@ -46,7 +49,7 @@ enum planner_number {
     PLANNER_TICKET_REFERENCES = 6,
     PLANNER_TICKET_REFERENCE = 7,
     PLANNER_TICKET_CLOSING = 8,
-    /* the sheet, in planner_check */
+    /* the sheet, in planner_check; either sheet, in planner_choose */
     PLANNER_SHEET_ENDS = 9,
     PLANNER_SHEET_ROUNDS = 10,
     PLANNER_SHEET_FETCHED = 11,
@@ -115,6 +118,26 @@ uint32_t planner_plan(const uint8_t *ticket, size_t ticket_length,
 uint32_t planner_check(const uint8_t *ticket, size_t ticket_length,
                        const uint8_t *sheet, size_t sheet_length,
                        uint8_t *counts, size_t counts_length);
+
+/* Chooses between two sheets for a ticket. Both are checked as planner_check does it, the first before the second. The second is handed back if it
+ * takes no more rounds than the first, otherwise the first.
+ *
+ *   ticket         read only
+ *   first, second  the two sheets, read only; they may be the same memory
+ *   counts         two numbers of 16 bits, most significant byte first, as far as the slice reaches (its length may be 0):
+ *                    0       the sheet handed back: 0 the first, 1 the second
+ *                    1       the length of that sheet, in bytes: first_length or second_length
+ *
+ * Returns 0, or 1 to 16: planner_check's number for the first sheet or, if that is 0, for the second. A refusal writes nothing.
+ *
+ * No sheet is copied: the caller has both, and the one handed back is `second` if number 0 above is 1, else `first`. It passes planner_check and
+ * takes no more rounds than the other. Between the two sheets of planner_plan, the short one first, it is the second exactly when planner_plan's
+ * mark is 1; planner_plan gives the length of the sheet to run only, so after it go by the mark. With the short plan's sheet first, nobody's second
+ * sheet is handed back unless it takes equally many rounds. */
+uint32_t planner_choose(const uint8_t *ticket, size_t ticket_length,
+                        const uint8_t *first, size_t first_length,
+                        const uint8_t *second, size_t second_length,
+                        uint8_t *counts, size_t counts_length);
 
 #ifdef __cplusplus
 }

@@ -39,14 +39,29 @@ fault() {
     fi
 }
 
-# Without a fault it agrees.
-build '' && "$dir/differential" 1 200 >"$dir/report" || { cat "$dir/report"; echo "a library without a fault is not passed"; exit 1; }
+# both NAME WORDS SCRIPT - the same wrong reference on both sides: they agree, and a promise does not hold.
+both() {
+    tried=$((tried + 1))
+    rm -rf "$dir.both" && mkdir -p "$dir.both" && sed -E "$3" reference/reference.c >"$dir.both/reference.c" || exit 2
+    if cmp -s reference/reference.c "$dir.both/reference.c" ||
+        ! $cc -O1 -std=c11 -Ireference -c "$dir.both/reference.c" -o "$dir.both/reference.o" || ! build "$3" "$dir.both/reference.o"; then
+        echo "BROKEN  $1, on both sides"
+        missed=$((missed + 1))
+    else
+        verdict "$1, on both sides" "$2"
+    fi
+}
+
+# Without a fault it agrees; but one job does not meet all that must be met.
+build '' && "$dir/differential" 1 1000 >"$dir/report" || { cat "$dir/report"; echo "a library without a fault is not passed"; exit 1; }
+"$dir/differential" 1 1 >"$dir/report"
+[ $? -eq 1 ] && grep -q '^FAIL' "$dir/report" || { echo "one job is taken for enough"; exit 1; }
 
 fault '14 not tested' 'reference 14' 's/return 14;/return 0;/'
 fault 'unfinished sheets pass' 'number: library 0, reference 15' 's/return 15;/return 0;/'
 fault 'lowest number among several nevers' 'DISAGREE: s' 's/(distance\[b\] )>=( l->distance\[v->min_block)/\1>\2/'
 fault 'P-CON never waits' 'DISAGREE' 's/rule == REF_P_CON && waits/false \&\& waits/'
-fault 'the mark of equal rounds' 'DISAGREE: counts' 's/(rounds )<=( counts\[REF_P_MIN)/\1<\2/'
+fault 'the mark of equal rounds' 'DISAGREE: counts' 's/p.mark = choice\(p.counts\)/p.mark = p.counts[1].rounds < p.counts[0].rounds/'
 fault '18 tested before 17' 'number: library 18, reference 17' \
     's/p.sheet_length\[k\] > room\[k\]/p.sheet_length[1 - k] > room[1 - k]/;s/return 17 \+ k/return 18 - k/'
 fault 'exact room refused' 'number: library 17, reference 0' 's/p.sheet_length\[k\] > room/p.sheet_length[k] >= room/'
@@ -63,19 +78,40 @@ fault 'a null counts slice read' 'STOPPED' \
     '/^uint32_t planner/,/^}/s/^    return number;/    if (counts == NULL \&\& *(volatile uint8_t *)counts == 0) return 1;\n&/'
 fault 'the ticket changed' 'DISAGREE: ticket' \
     '/^uint32_t planner/,/^}/s/^    return number;/    if (ticket_length > 0) ((uint8_t *)ticket)[0] ^= 1;\n&/'
-fault 'counts written by a refusal' 'DISAGREE: counts' 's/if \(number == 0\)$/if (number != 99)/'
+fault 'counts written by a refusal' 'DISAGREE: counts' '/^uint32_t planner/,/^}/s/if \(number == 0\)$/if (number != 99)/'
 fault 'a number cut in the middle left out' 'DISAGREE: counts' 's/k < len && k < 2/k < len - len % 2 \&\& k < 2/'
 fault 'counts past the numbers zeroed' 'DISAGREE: counts' \
     's/^        ref_fill_counts\(numbers, REF_(.*)_NUMBERS, .*/&\n    for (size_t k = 2 * REF_\1_NUMBERS; number == 0 \&\& k < counts_length; k++)'\
 '\n        counts[k] = 0;/'
 
-# Demand 3: with the same wrong plan on both sides they agree, and a sheet beats it.
-tried=$((tried + 1))
+# The choice
+second_first='s/sheet\[k\], len\[k\], &counts\[k\]/sheet[1 - k], len[1 - k], \&counts[1 - k]/'
+second_forgiven='s/(number == 0 && k < 2); k\+\+/\1; number *= 1 - k, k++/'
+fault 'a tie goes to the first' 'DISAGREE: counts' 's/out->which = choice\(counts\)/out->which = counts[1].rounds < counts[0].rounds/'
+fault 'the second checked first' 'DISAGREE: number' "$second_first"
+fault 'a failure of the second forgiven' 'number: library 0, reference' "$second_forgiven"
+fault "the other sheet's length" 'DISAGREE: counts' 's/len\[out->which\]/len[1 - out->which]/'
+fault 'the same memory refused' 'number: library 16, reference 0' \
+    '/^uint32_t planner_choose/,/^}/s/^    return number;/    if (number == 0 \&\& first == second) return 16;\n&/'
+fault 'the second sheet changed' 'DISAGREE: second sheet' \
+    '/^uint32_t planner_choose/,/^}/s/^    return number;/    if (second_length > 0) ((uint8_t *)second)[0] ^= 1;\n&/'
+fault 'a byte past the second sheet read' 'STOPPED' \
+    '/^uint32_t planner_choose/,/^}/s/^    return number;/    if (second != NULL \&\& ((const volatile uint8_t *)second)[second_length] == 255) return 9;\n&/'
+fault 'counts written by a refused choice' 'DISAGREE: counts' '/^uint32_t planner_choose/,/^}/s/if \(number == 0\)$/if (number != 99)/'
+fault 'counts past the two numbers zeroed' 'DISAGREE: counts' \
+    '/^uint32_t planner_choose/,/^}/s/^    return number;/    for (size_t k = 4; number == 0 \&\& k < counts_length; k++)\n        counts[k] = 0;\n&/'
+
+# Demand 3: a sheet beats the wrong plan.
 on_demand='if (view[d].u != REF_NONE \&\& l.distance[view[d].u] != next_read) view[d].u = REF_NONE;'
-demand="s/^        survey\\(.*/&\\nfor (unsigned d = 0; d < job->disks; d++) $on_demand/"
-rm -rf "$dir.both" && mkdir -p "$dir.both" && sed -E "$demand" reference/reference.c >"$dir.both/reference.c" &&
-    $cc -O1 -std=c11 -Ireference -c "$dir.both/reference.c" -o "$dir.both/reference.o" && build "$demand" "$dir.both/reference.o" || exit 2
-verdict 'demand-only fetching on both sides' 'beats a plan (demand 3)'
+both 'demand-only fetching' 'beats a plan (demand 3)' "s/^        survey\\(.*/&\\nfor (unsigned d = 0; d < job->disks; d++) $on_demand/"
+
+# What is promised of the choice
+both 'the second checked first' 'another number than the check' "$second_first"
+both 'a failure of the second forgiven' 'another number than the check' "$second_forgiven"
+both 'always the first' 'takes more rounds than the other' 's/out->which = choice\(counts\)/out->which = 0/'
+both "always the second after the short plan's rounds" 'one with other rounds is handed back' \
+    's/^    out->which = choice\(counts\);/    struct ref_action a[REF_ROUNDS * REF_DISKS];\n    struct ref_counts c;\n'\
+'    ref_run(\&job, REF_P_MIN, a, \&c);\n    out->which = c.rounds == counts[0].rounds ? 1 : choice(counts);/'
 
 echo "$tried faults, $missed not caught"
 [ "$missed" -eq 0 ]

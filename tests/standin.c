@@ -6,8 +6,10 @@
 #define ref_run in_run
 #define ref_plan in_plan
 #define ref_check in_check
+#define ref_choose in_choose
 #define ref_planned_numbers in_planned_numbers
 #define ref_checked_numbers in_checked_numbers
+#define ref_chosen_numbers in_chosen_numbers
 #define ref_fill_counts in_fill_counts
 #include <reference.c>
 
@@ -38,5 +40,20 @@ uint32_t planner_check(const uint8_t *ticket, size_t ticket_length, const uint8_
     ref_checked_numbers(&checked, numbers);
     if (number == 0)
         ref_fill_counts(numbers, REF_CHECKED_NUMBERS, counts, counts_length);
+    return number;
+}
+
+uint32_t planner_choose(const uint8_t *ticket, size_t ticket_length, const uint8_t *first,
+                        size_t first_length, const uint8_t *second, size_t second_length,
+                        uint8_t *counts, size_t counts_length)
+{
+    uint16_t numbers[REF_CHOSEN_NUMBERS];
+    struct ref_chosen chosen;
+    unsigned number = ref_choose(ticket, ticket_length, first, first_length, second, second_length,
+                                 &chosen);
+
+    ref_chosen_numbers(&chosen, numbers);
+    if (number == 0)
+        ref_fill_counts(numbers, REF_CHOSEN_NUMBERS, counts, counts_length);
     return number;
 }

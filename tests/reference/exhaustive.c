@@ -3,8 +3,8 @@
  * usage: exhaustive [SEED [COUNT]]
  * A state is the next read and the set of resident blocks. All states that allowed actions can
  * reach are searched for the fewest rounds, and then, for each disk on its own, for the fewest
- * fetches there. Exit 0 only if these are the rounds of P-MIN and the fetches of P-CON, and the
- * sheets of both pass the check with the plans' counts. */
+ * fetches there. Exit 0 only if these are the rounds of P-MIN and the fetches of P-CON, the sheets
+ * of both pass the check with the plans' counts, and the choice between them follows the rounds. */
 #include "chance.h"
 #include "reference.h"
 
@@ -110,20 +110,49 @@ static void draw_small_job(struct chance *c, struct ref_job *job)
     }
 }
 
+/* A ticket, and both sheets by rule. */
+struct written {
+    uint8_t ticket[REF_TICKET], sheet[2][REF_SHEET];
+    size_t n;
+};
+
 /* Both sheets pass, with the counts planning gave; 0 if not. */
-static bool both_pass(const struct ref_job *job, struct ref_planned *planned)
+static bool both_pass(const struct ref_job *job, struct written *w, struct ref_planned *planned)
 {
-    static uint8_t ticket[REF_TICKET], sheet[2][REF_SHEET];
-    size_t n = ref_write_ticket(job, ticket, sizeof ticket);
     struct ref_counts counts;
 
-    if (ref_plan(ticket, n, sheet[0], REF_SHEET, sheet[1], REF_SHEET, planned) != 0)
+    w->n = ref_write_ticket(job, w->ticket, sizeof w->ticket);
+    if (ref_plan(w->ticket, w->n, w->sheet[0], REF_SHEET, w->sheet[1], REF_SHEET, planned) != 0)
         return false;
     for (int k = 0; k < 2; k++)
-        if (ref_check(ticket, n, sheet[k], planned->sheet_length[k], &counts) != 0 ||
+        if (ref_check(w->ticket, w->n, w->sheet[k], planned->sheet_length[k], &counts) != 0 ||
             memcmp(&counts, &planned->counts[k], sizeof counts) != 0)
             return false;
     return true;
+}
+
+/* With the sheet of this rule first and the other's second, the sheet of the wanted rule is handed
+ * back. */
+static bool chooses(const struct written *w, const struct ref_planned *planned, enum ref_rule first,
+                    enum ref_rule wanted)
+{
+    enum ref_rule second = first == REF_P_MIN ? REF_P_CON : REF_P_MIN;
+    struct ref_chosen chosen;
+
+    return ref_choose(w->ticket, w->n, w->sheet[first], planned->sheet_length[first],
+                      w->sheet[second], planned->sheet_length[second], &chosen) == 0 &&
+           chosen.which == (wanted == second) && chosen.length == planned->sheet_length[wanted];
+}
+
+/* P-MIN's sheet first: P-CON's is handed back if both take equally many rounds, which the mark
+ * says too. P-CON's sheet first: P-MIN's always is, as it takes no more rounds. */
+static bool choices_follow_rounds(const struct written *w, const struct ref_planned *planned)
+{
+    bool equal = planned->counts[REF_P_CON].rounds == planned->counts[REF_P_MIN].rounds;
+
+    return planned->mark == (equal ? REF_P_CON : REF_P_MIN) &&
+           chooses(w, planned, REF_P_MIN, equal ? REF_P_CON : REF_P_MIN) &&
+           chooses(w, planned, REF_P_CON, REF_P_MIN);
 }
 
 static bool plans_are_least(const struct ref_job *job, const struct ref_planned *planned)
@@ -141,8 +170,10 @@ static bool plans_are_least(const struct ref_job *job, const struct ref_planned 
     return good;
 }
 
-static void print_job(const struct ref_job *job)
+/* Says what does not hold of a job, and gives the exit status. */
+static int report(const char *what, uint64_t seed, uint64_t k, const struct ref_job *job)
 {
+    printf("%s: seed %" PRIu64 ", job %" PRIu64 "\n", what, seed, k);
     printf("  %u disks; slots", job->disks);
     for (unsigned d = 0; d < job->disks; d++)
         printf(" %u", job->slots[d]);
@@ -153,12 +184,14 @@ static void print_job(const struct ref_job *job)
     for (unsigned i = 0; i < job->references; i++)
         printf(" %u", job->reference[i]);
     printf("\n");
+    return 1;
 }
 
 int main(int argc, char **argv)
 {
     uint64_t seed = argc > 1 ? strtoull(argv[1], NULL, 10) : 1;
     uint64_t count = argc > 2 ? strtoull(argv[2], NULL, 10) : 10000;
+    static struct written written;
     unsigned slower = 0, spares = 0;
 
     for (uint64_t k = 0; k < count; k++) {
@@ -167,17 +200,16 @@ int main(int argc, char **argv)
         struct ref_job job;
 
         draw_small_job(&c, &job);
-        if (!both_pass(&job, &planned) || !plans_are_least(&job, &planned)) {
-            printf("NOT THE LEAST: seed %" PRIu64 ", job %" PRIu64 "\n", seed, k);
-            print_job(&job);
-            return 1;
-        }
+        if (!both_pass(&job, &written, &planned) || !plans_are_least(&job, &planned))
+            return report("NOT THE LEAST", seed, k, &job);
+        if (!choices_follow_rounds(&written, &planned))
+            return report("ANOTHER CHOICE", seed, k, &job);
         slower += planned.counts[REF_P_CON].rounds > planned.counts[REF_P_MIN].rounds;
         spares += memcmp(planned.counts[0].fetches, planned.counts[1].fetches,
                          sizeof planned.counts[0].fetches) != 0;
     }
-    printf("%" PRIu64 " jobs searched (seed %" PRIu64 "): the plans are the least in all\n", count,
-           seed);
+    printf("%" PRIu64 " jobs searched (seed %" PRIu64 "): the plans are the least in all, and the "
+           "choices follow the rounds\n", count, seed);
     printf("  P-CON took more rounds than P-MIN in %u, and other fetches in %u\n", slower, spares);
     return 0;
 }

@@ -8,7 +8,7 @@ build=$1
 dir=$build/mutant
 missed=0
 tried=0
-cat ../vectors/base.txt ../vectors/edges.txt >"$build/all.txt" || exit 2
+cat ../vectors/L1.txt ../vectors/edges.txt >"$build/all.txt" || exit 2
 
 # trial NAME SCRIPT TEST WORDS ARGUMENT... - the changed copy must differ and compile, and the test
 # must say what is wrong with it: a crash would not do.
@@ -37,9 +37,9 @@ mutant() {
     trial "$1" "$2" vectors disagrees "$build/all.txt"
 }
 
-# searched NAME SCRIPT - a wrong reference that the search must catch.
+# searched NAME SCRIPT WORDS - a wrong reference that the search must catch, with these words.
 searched() {
-    trial "$1" "$2" exhaustive 'NOT THE LEAST' 1 10000
+    trial "$1" "$2" exhaustive "$3" 1 10000
 }
 
 on_demand='if (view[d].u != REF_NONE \&\& l.distance[view[d].u] != next_read) view[d].u = REF_NONE;'
@@ -51,6 +51,15 @@ all_wait='s/rule == REF_P_CON && waits/waits/'
 demand="s/^        survey\\(.*/&\\n$each_disk $on_demand/"
 early='s/^    if \(l->distance\[v.min_block\] < /    if (rule == REF_P_MIN \&\& l->distance[v.min_block] < /
     s/if \(from_u > l->distance\[v.min_block\]\)/unsigned m = l->distance[v.min_block]; while (m < l->distance[v.u]) m = l->next[m]; if (from_u > m)/'
+
+# chosen EXPRESSION - the script that has ref_choose hand back the second sheet where this holds.
+chosen() {
+    printf 's/out->which = choice\\(counts\\)/out->which = %s/' "$1"
+}
+first='counts[0]' second='counts[1]'
+tie_first=$(chosen "$second.rounds < $first.rounds")
+by_fetches="s/^    out->which = /    unsigned sum[2] = {0, 0};\\n    for (unsigned k = 0; k < 16; k++) sum[k \\/ 8] += counts[k \\/ 8].fetches[k % 8];\\n&/
+    $(chosen 'sum[1] <= sum[0]')"
 
 # The rules
 mutant 'lowest number among several nevers' \
@@ -69,7 +78,7 @@ mutant 'P-CON: two nevers not equal, the higher number is later' \
     's/if \(from_u > l->distance\[v.min_block\]\)/if (from_u > l->distance[v.min_block] || (from_u == l->distance[v.min_block] \&\& b > v.min_block \&\& from_u != l->distance[b]))/'
 mutant 'P-CON counted from the next read, not from U' \
     's/while \(from_u < l->distance\[v.u\]\)/while (false)/'
-mutant 'equal rounds give the sheet of P-MIN' 's/(rounds )<=( counts\[REF_P_MIN)/\1<\2/'
+mutant 'equal rounds give the sheet of P-MIN' 's/p.mark = choice\(p.counts\)/p.mark = p.counts[1].rounds < p.counts[0].rounds/'
 
 # What planning hands back
 mutant 'part length always that of P-MIN' 's/(p.length = .*)\[p.mark\]/\1[REF_P_MIN]/'
@@ -78,7 +87,7 @@ mutant 'counts of the two plans exchanged' \
 mutant 'reports a fetch it did not make' \
     '/^unsigned ref_plan/,/^}/s/^    p.mark = /    p.counts[1].fetches[7] += job.disks == 8;\n&/'
 mutant 'only the chosen sheet is written' \
-    's/^        ref_write_sheet\(/        if (k == (int)choose(p.counts)) ref_write_sheet(/'
+    's/^        ref_write_sheet\(/        if (k == (int)choice(p.counts)) ref_write_sheet(/'
 mutant 'buffers left untouched' 's/^        ref_write_sheet\(/        if (k > 2) ref_write_sheet(/'
 mutant 'a byte past the sheet changed' \
     '/^size_t ref_write_sheet/,/^}/s/memset\(buf, 0, len\)/memset(buf, 0, len < room ? len + 1 : len)/'
@@ -145,11 +154,35 @@ mutant 'fetches counted to the last reference only' \
     '/^static unsigned check_rounds/,/^}/s/\+= a.fetch != REF_NONE/+= a.fetch != REF_NONE \&\& next_read < job->references/'
 mutant 'a missing last bit read as 0' 's/if \(width > 8 \* r->len - r->at\)/if (width > 1 \&\& width > 8 * r->len - r->at)/'
 
+# The choice
+mutant 'a tie goes to the first' "$tie_first"
+mutant 'a tie goes to the shorter sheet' \
+    "$(chosen "$second.rounds < $first.rounds || ($second.rounds == $first.rounds \&\& len[1] <= len[0])")"
+mutant 'chosen by length' "$(chosen 'len[1] <= len[0]')"
+mutant 'chosen by fetches' "$by_fetches"
+mutant 'the sheet with more rounds' "$(chosen "$second.rounds >= $first.rounds")"
+mutant 'the last eight bits of the rounds compared' "$(chosen "(uint8_t)$second.rounds <= (uint8_t)$first.rounds")"
+mutant 'the second checked before the first' 's/sheet\[k\], len\[k\], &counts\[k\]/sheet[1 - k], len[1 - k], \&counts[1 - k]/'
+mutant 'a failure of the first forgiven' 's/(number == 0 && k < 2); k\+\+/\1; number *= k, k++/'
+mutant 'a failure of the second forgiven' 's/(number == 0 && k < 2); k\+\+/\1; number *= 1 - k, k++/'
+mutant 'the first checked twice' 's/check_sheet\(&job, sheet\[k\], len\[k\]/check_sheet(\&job, first, m1/'
+mutant "the first sheet's 9 before the ticket's number" \
+    '/^unsigned ref_choose/,/^}/s/^    memset\(out.*/&\n    if (m1 < 2) return 9;/'
+mutant "the other sheet's length" 's/len\[out->which\]/len[1 - out->which]/'
+mutant 'the last eight bits of the length' 's/\(uint16_t\)len\[out->which\]/(uint8_t)len[out->which]/'
+mutant 'which and length exchanged' \
+    '/^void ref_chosen_numbers/,/^}/{s/chosen->which/chosen->left/;s/chosen->length/chosen->which/;s/chosen->left/chosen->length/}'
+
 # Plans that are beaten
-searched 'P-CON never waits' "$no_wait"
-searched 'P-MIN waits too' "$all_wait"
-searched 'demand-only fetching' "$demand"
-searched 'P-CON discards a block due before U' "$early"
+searched 'P-CON never waits' "$no_wait" 'NOT THE LEAST'
+searched 'P-MIN waits too' "$all_wait" 'NOT THE LEAST'
+searched 'demand-only fetching' "$demand" 'NOT THE LEAST'
+searched 'P-CON discards a block due before U' "$early" 'NOT THE LEAST'
+
+# Choices between the sheets of both plans that do not follow their rounds
+searched 'a tie goes to the first' "$tie_first" 'ANOTHER CHOICE'
+searched 'equal rounds give the sheet of P-MIN, and the first' 's/(counts\[1\].rounds )<=( counts\[0\])/\1<\2/' 'ANOTHER CHOICE'
+searched 'chosen by fetches' "$by_fetches" 'ANOTHER CHOICE'
 
 echo "$tried mutants, $missed not caught"
 [ "$missed" -eq 0 ]

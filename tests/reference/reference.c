@@ -1,4 +1,5 @@
-/* reference.c - document 01, sentence by sentence; words between quotation marks are its own. */
+/* reference.c - document 01 and request L1, sentence by sentence; words between quotation marks are
+ * their own. */
 #include "reference.h"
 
 #include <stdbool.h>
@@ -300,13 +301,17 @@ void ref_run(const struct ref_job *job, enum ref_rule rule, struct ref_action *s
     }
 }
 
-/* ---- Planning ---- */
+/* ---- The choice ---- */
 
-/* "only total rounds decide"; in the worked jobs equal rounds give the sheet of P-CON. */
-static enum ref_rule choose(const struct ref_counts *counts)
+/* "The second is handed back if it takes no more rounds than the first, otherwise the first": 1 for
+ * the second, by the counts of both; "only total rounds decide". In planning P-MIN's sheet is the
+ * first, and this is the mark: in the worked jobs equal rounds give the sheet of P-CON. */
+static uint16_t choice(const struct ref_counts *counts)
 {
-    return counts[REF_P_CON].rounds <= counts[REF_P_MIN].rounds ? REF_P_CON : REF_P_MIN;
+    return counts[1].rounds <= counts[0].rounds;
 }
+
+/* ---- Planning ---- */
 
 unsigned ref_plan(const uint8_t *ticket, size_t n, uint8_t *p_min, size_t ns,
                   uint8_t *p_con, size_t np, struct ref_planned *out)
@@ -330,7 +335,7 @@ unsigned ref_plan(const uint8_t *ticket, size_t n, uint8_t *p_min, size_t ns,
             return 17 + k;
     for (int k = 0; k < 2; k++)
         ref_write_sheet(schedule[k], p.counts[k].rounds, job.disks, buffer[k], room[k]);
-    p.mark = (uint16_t)choose(p.counts);
+    p.mark = choice(p.counts);
     p.length = (uint16_t)p.sheet_length[p.mark];
     *out = p;
     return 0;
@@ -392,26 +397,55 @@ static unsigned check_rounds(struct reader *r, const struct ref_job *job,
     return closes(r) ? 0 : 16;
 }
 
-unsigned ref_check(const uint8_t *ticket, size_t n, const uint8_t *sheet, size_t m,
-                   struct ref_counts *out)
+/* The counts are a sheet's only if it passes. */
+static unsigned check_sheet(const struct ref_job *job, const uint8_t *sheet, size_t m,
+                            struct ref_counts *counts)
 {
     struct reader r = {sheet, m, 0};
-    struct ref_counts counts = {0, {0}};
-    struct ref_job job;
-    unsigned rounds, number = ref_read_ticket(ticket, n, &job);
+    unsigned rounds;
 
-    memset(out, 0, sizeof *out);
-    if (number != 0)
-        return number;
+    memset(counts, 0, sizeof *counts);
     if (!field(&r, 12, &rounds))
         return 9;
     if (rounds > REF_ROUNDS)
         return 10;
-    counts.rounds = (uint16_t)rounds;
-    number = check_rounds(&r, &job, &counts);
+    counts->rounds = (uint16_t)rounds;
+    return check_rounds(&r, job, counts);
+}
+
+unsigned ref_check(const uint8_t *ticket, size_t n, const uint8_t *sheet, size_t m,
+                   struct ref_counts *out)
+{
+    struct ref_counts counts;
+    struct ref_job job;
+    unsigned number = ref_read_ticket(ticket, n, &job);
+
+    memset(out, 0, sizeof *out);
+    if (number == 0)
+        number = check_sheet(&job, sheet, m, &counts);
     if (number == 0)
         *out = counts;
     return number;
+}
+
+/* "both are checked, the first before the second, and a failure gives the check's number" */
+unsigned ref_choose(const uint8_t *ticket, size_t n, const uint8_t *first, size_t m1,
+                    const uint8_t *second, size_t m2, struct ref_chosen *out)
+{
+    const uint8_t *sheet[2] = {first, second};
+    const size_t len[2] = {m1, m2};
+    struct ref_counts counts[2];
+    struct ref_job job;
+    unsigned number = ref_read_ticket(ticket, n, &job);
+
+    memset(out, 0, sizeof *out);
+    for (unsigned k = 0; number == 0 && k < 2; k++)
+        number = check_sheet(&job, sheet[k], len[k], &counts[k]);
+    if (number != 0)
+        return number;
+    out->which = choice(counts);
+    out->length = (uint16_t)len[out->which];
+    return 0;
 }
 
 /* ---- The numbers a call from C writes ---- */
@@ -431,6 +465,13 @@ void ref_planned_numbers(const struct ref_planned *planned, uint16_t *numbers)
     numbers[1] = planned->length;
     ref_checked_numbers(&planned->counts[REF_P_MIN], numbers + 2);
     ref_checked_numbers(&planned->counts[REF_P_CON], numbers + 2 + REF_CHECKED_NUMBERS);
+}
+
+/* "0 (first) or 1 (second) and that sheet's length" */
+void ref_chosen_numbers(const struct ref_chosen *chosen, uint16_t *numbers)
+{
+    numbers[0] = chosen->which;
+    numbers[1] = chosen->length;
 }
 
 /* "as far as that slice reaches, in 16 bits each and most significant byte first" */

@@ -1,4 +1,4 @@
-/* reference.h - the planner of document 01, written from the papers alone.
+/* reference.h - the planner of document 01 with request L1, written from the papers alone.
  *
  * A reference to compare others with: tables and plain passes over the blocks, nothing clever.
  * Every answer "number" is 0, or the number of the refusal in document 01. */
@@ -18,7 +18,8 @@ enum {
     REF_SHEET = 40962,         /*  the longest sheet 40,962." */
     REF_NONE = 0xffff,         /* no block */
     REF_PLANNED_NUMBERS = 20,  /* mark, part length, then 9 for each plan */
-    REF_CHECKED_NUMBERS = 9    /* rounds and eight fetch counts */
+    REF_CHECKED_NUMBERS = 9,   /* rounds and eight fetch counts */
+    REF_CHOSEN_NUMBERS = 2     /* which sheet, and its length */
 };
 
 /* What a ticket says. */
@@ -47,6 +48,10 @@ struct ref_planned {
     size_t sheet_length[2];            /* by rule */
 };
 
+struct ref_chosen {
+    uint16_t which, length;            /* the sheet handed back: 0 first, 1 second; how long */
+};
+
 /* Ticket to job. The job means nothing where the number is not 0. */
 unsigned ref_read_ticket(const uint8_t *ticket, size_t n, struct ref_job *job);
 
@@ -68,9 +73,14 @@ unsigned ref_plan(const uint8_t *ticket, size_t n, uint8_t *p_min, size_t ns,
 unsigned ref_check(const uint8_t *ticket, size_t n, const uint8_t *sheet, size_t m,
                    struct ref_counts *out);
 
+/* The choice between two sheets; all of out is 0 if refused. */
+unsigned ref_choose(const uint8_t *ticket, size_t n, const uint8_t *first, size_t m1,
+                    const uint8_t *second, size_t m2, struct ref_chosen *out);
+
 /* The numbers a call from C writes, in order, and how it writes them. */
 void ref_planned_numbers(const struct ref_planned *planned, uint16_t *numbers);
 void ref_checked_numbers(const struct ref_counts *counts, uint16_t *numbers);
+void ref_chosen_numbers(const struct ref_chosen *chosen, uint16_t *numbers);
 void ref_fill_counts(const uint16_t *numbers, size_t how_many, uint8_t *counts, size_t len);
 
 #endif

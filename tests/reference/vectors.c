@@ -1,4 +1,4 @@
-/* vectors.c - the vectors of document 01 against the reference.
+/* vectors.c - the vectors against the reference.
  *
  * usage: vectors FILE
  * Each line's answer is written out again and compared as text; ../README.md has the form. */
@@ -114,12 +114,26 @@ static void answer_check(struct bytes ticket, struct bytes sheet, char *to)
     }
 }
 
+static void answer_choose(struct bytes ticket, struct bytes first, struct bytes second, char *to)
+{
+    uint16_t numbers[REF_CHOSEN_NUMBERS];
+    struct ref_chosen chosen;
+    unsigned number = ref_choose(ticket.at, ticket.len, first.at, first.len, second.at, second.len,
+                                 &chosen);
+
+    to += sprintf(to, "%u", number);
+    if (number == 0) {
+        ref_chosen_numbers(&chosen, numbers);
+        put_numbers(to + sprintf(to, " "), numbers, REF_CHOSEN_NUMBERS);
+    }
+}
+
 /* Writes the reference's answer to a question; 0 if the line is no question. */
 static int answer(char *question, char *to)
 {
     char *call = strtok(question, " "), *first = strtok(NULL, " ");
     char *second = strtok(NULL, " "), *third = strtok(NULL, " ");
-    struct bytes ticket, sheet;
+    struct bytes ticket, sheet, other;
 
     if (call == NULL || first == NULL || second == NULL)
         return 0;
@@ -130,6 +144,12 @@ static int answer(char *question, char *to)
         sheet = from_hex(second);
         answer_check(ticket, sheet, to);
         free(sheet.at);
+    } else if (strcmp(call, "choose") == 0 && third != NULL) {
+        sheet = from_hex(second);
+        other = from_hex(third);
+        answer_choose(ticket, sheet, other, to);
+        free(sheet.at);
+        free(other.at);
     } else {
         return 0;
     }

@@ -1,10 +1,11 @@
-// The vectors' calls, made through the planner's public calls. Standard input has a call on each line, `plan TICKET ROOM ROOM` or
-// `check TICKET SHEET`, with bytes in hexadecimal and `-` for none; other lines are comments. Standard output has the same lines, each call
-// followed by ` = ` and what it gives, in the vectors' form.
+// The vectors' calls, made through the planner's public calls. Standard input has a call on each line, `plan TICKET ROOM ROOM`,
+// `check TICKET SHEET` or `choose TICKET SHEET SHEET`, with bytes in hexadecimal and `-` for none; other lines are comments. Standard output has the
+// same lines, each call followed by ` = ` and what it gives, in the vectors' form.
 use libc::STDIN_FILENO;
 use libc::STDOUT_FILENO;
 use planner::Counts;
 use planner::Mark;
+use planner::Which;
 ghost use Prim.Native.Nat.{_≤_, _<_};
 ghost use Rattle.io.specs.Counts.{Counts as Within};
 
@@ -137,9 +138,9 @@ fn write_bytes(s: &[u8]) {
     }
 }
 
-// The mark and the length of the part that was handed out. Its bytes are compared with what was written to the marked buffer.
-fn write_part(mark: &[u8], part: &[u8], sheet: &[u8]) {
-    write(mark);
+// Which sheet was handed back, as a number, and the length of the slice. Its bytes are compared with those of that sheet.
+fn write_part(which: &[u8], part: &[u8], sheet: &[u8]) {
+    write(which);
     write_number(part.len());
     if !check::same(part, sheet) {
         write(b" of other bytes");
@@ -243,6 +244,48 @@ fn check_line() {
     }
 }
 
+// The choice between two sheets. After a refusal neither is handed back, so nothing more is written.
+fn choose_between<'a>(ticket: &[u8], first: &'a [u8], second: &'a [u8]) {
+    let c = planner::choose(ticket, first, second);
+    write_number(c.number);
+    let sheet = planner::chosen_sheet(first, second, c);
+    let which = c.which;
+    match which {
+        Which::Neither => {
+            if c.length != 0 {
+                write_number(c.length);
+            }
+            write_bytes(sheet);
+        }
+        Which::First => write_part(b" 0", sheet, first),
+        Which::Second => write_part(b" 1", sheet, second),
+    }
+}
+
+// A line `choose`.
+fn choose_line() {
+    let mut ticket = io::buffer();
+    let n = read_bytes(&mut ticket);
+    let mut first = io::large_buffer();
+    let m = read_bytes(&mut first);
+    let mut second = io::large_buffer();
+    let k = read_bytes(&mut second);
+    write(b" =");
+    choose_between(&ticket[..n], &first[..m], &second[..k]);
+}
+
+// A line `check` or `choose`, after its first letter; the third tells them apart.
+fn sheet_line() {
+    next();
+    let third = next();
+    skip(b' ');
+    if third == b'o' {
+        choose_line();
+    } else {
+        check_line();
+    }
+}
+
 // One line; whether there was one.
 fn line() -> bool {
     let b = next();
@@ -253,8 +296,7 @@ fn line() -> bool {
         skip(b' ');
         plan_line();
     } else if b == b'c' {
-        skip(b' ');
-        check_line();
+        sheet_line();
     } else {
         skip(b'\n');
     }

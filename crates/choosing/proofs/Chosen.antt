@@ -19,7 +19,7 @@ use Rattle.model.specs.Valid.{Block}
 use Rattle.model.proofs.Distances.{distance-before, distance-same, distance-one}
 use Rattle.model.proofs.Choosing.{NearestView, noneDue, nearest, nearest-view, LastView, empty, last, last-view, no-later, one-later}
 use Rattle.lookup.specs.Desk.{nexts, laters, helds, looks}
-use Rattle.choosing.specs.Choosing.{lastPlace, someBeyond, alsoIdle, chooseFrom, ruleOf, meaning}
+use Rattle.choosing.specs.Choosing.{lastPlace, someBeyond, alsoIdle, choiceFrom, ruleOf, meaning}
 use Rattle.choosing.specs.declared.Rule.{Rule}
 use Rattle.choosing.specs.declared.Rule.the-variants.{Short, Sparing}
 use Rattle.choosing.specs.declared.Choice.{Choice}
@@ -48,8 +48,8 @@ module _ (refs : List ℕ) (rule : Rule) (d count slots : ℕ) (desk : List (Lis
     beyond : lookOf < length refs → slots ≤ count → lookOf ≤ far → idles ≡ true → Tested Waits
     after : lookOf < length refs → slots ≤ count → lookOf ≤ far → idles ≡ false → Tested (OverMinBlock (getD refs lookOf 0) lastOf)
 
-  tested : Tested (chooseFrom refs rule d count slots desk)
-  unfolding chooseFrom
+  tested : Tested (choiceFrom refs rule d count slots desk)
+  unfolding choiceFrom
   tested =
       by-test (leb (length refs) lookOf)
       (λ e. rw e (atEnd (leb-true _ _ e)))
@@ -268,9 +268,9 @@ module _ {j : Job} {s : State} {d : ℕ} {desk : List (List ℕ)} {count slots :
   over-ruled Sparing u w e = ap (unlessLater j s d) (sym e)
 
   -- What is chosen from the tables is what the rule chooses,
-  pub choose-is : (rule : Rule) → meaning residents (chooseFrom (j .refs) rule d count slots desk) ≡ ruleOf rule j s d
+  pub choice-is : (rule : Rule) → meaning residents (choiceFrom (j .refs) rule d count slots desk) ≡ ruleOf rule j s d
   unfolding unlessLater
-  choose-is rule = step _ (tested (j .refs) rule d count slots desk)
+  choice-is rule = step _ (tested (j .refs) rule d count slots desk)
     where
       step : (c : Choice) → Tested (j .refs) rule d count slots desk c → meaning residents c ≡ ruleOf rule j s d
       step c (atEnd l) = always rule noneMissing (short-none l) refl
@@ -288,9 +288,9 @@ Placed refs look base count slots MinBlockSooner = Unit {0}
 Placed refs look base count slots Waits = Unit {0}
 Placed refs look base count slots NoneMissing = Unit {0}
 
-pub choose-placed : (refs : List ℕ) (rule : Rule) (d count slots : ℕ) (desk : List (List ℕ)) → 1 ≤ slots
-    → Placed refs (getD (looks desk) d 0) (d * 64) count slots (chooseFrom refs rule d count slots desk)
-choose-placed refs rule d count slots desk one = step _ (tested refs rule d count slots desk)
+pub choice-placed : (refs : List ℕ) (rule : Rule) (d count slots : ℕ) (desk : List (List ℕ)) → 1 ≤ slots
+    → Placed refs (getD (looks desk) d 0) (d * 64) count slots (choiceFrom refs rule d count slots desk)
+choice-placed refs rule d count slots desk one = step _ (tested refs rule d count slots desk)
   where
     step : (c : Choice) → Tested refs rule d count slots desk c → Placed refs (getD (looks desk) d 0) (d * 64) count slots c
     step c (atEnd l) = tt

@@ -34,22 +34,22 @@ alsoIdle Short later = false
 alsoIdle Sparing later = later
 
 -- With full slots: the min-block stands at `place`.
-unfoldable pub chooseFull : Rule → List (List ℕ) → ℕ → ℕ → ℕ → ℕ → ℕ → Choice
+unfoldable pub choiceFull : Rule → List (List ℕ) → ℕ → ℕ → ℕ → ℕ → ℕ → Choice
 unfolding someBeyond
-chooseFull rule desk look u base count place =
+choiceFull rule desk look u base count place =
     let far = getD (nexts desk) (getD (helds desk) place 0) 0 in
     cond (ltb far look) MinBlockSooner
     (cond (alsoIdle rule (someBeyond (helds desk) (laters desk) far base count)) Waits (OverMinBlock u place))
 
 -- What a rule chooses for disk d, which holds `count` blocks in its slots.
-unfoldable pub chooseFrom : List ℕ → Rule → ℕ → ℕ → ℕ → List (List ℕ) → Choice
-unfolding chooseFull lastPlace
-chooseFrom refs rule d count slots desk =
+unfoldable pub choiceFrom : List ℕ → Rule → ℕ → ℕ → ℕ → List (List ℕ) → Choice
+unfolding choiceFull lastPlace
+choiceFrom refs rule d count slots desk =
     let look = getD (looks desk) d 0 in
     let u = getD refs look 0 in
     cond (leb (length refs) look) NoneMissing
     (cond (ltb count slots) (IntoEmpty u (d * 64 + count))
-    (chooseFull rule desk look u (d * 64) count (lastPlace (helds desk) (nexts desk) (d * 64) (count - 1))))
+    (choiceFull rule desk look u (d * 64) count (lastPlace (helds desk) (nexts desk) (d * 64) (count - 1))))
 
 -- Which of the model's rules it is, and which of its choices.
 abbrev pub ruleOf : Rule → JobRule

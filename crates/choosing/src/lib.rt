@@ -6,7 +6,7 @@ ghost use mathlib.Core.Path.{_≡_};
 ghost use Prim.Native.Nat.{_+_, _-_, _≤_, _<_};
 ghost use Rattle.lookup.specs.Lookup.{Below};
 ghost use Rattle.lookup.specs.Desk.{nexts, laters, helds};
-ghost use Rattle.choosing.specs.Choosing.{keyAt, lastPlace, someBeyond, alsoIdle, chooseFrom};
+ghost use Rattle.choosing.specs.Choosing.{keyAt, lastPlace, someBeyond, alsoIdle, choiceFrom};
 
 // The two rules.
 pub enum Rule {
@@ -81,10 +81,17 @@ fn waits(rule: Rule, desk: &Desk, base: usize, count: usize, far: usize) -> bool
 }
 
 // What a rule does on disk d, which holds `count` blocks in its slots.
-pub fn choose(d: usize, count: usize, slots: usize, refs: &[u16], rule: Rule, desk: &Desk) -> Choice
+pub fn rule_choice(
+    d: usize,
+    count: usize,
+    slots: usize,
+    refs: &[u16],
+    rule: Rule,
+    desk: &Desk,
+) -> Choice
     requires { ⌜ (d < 8) × (count ≤ slots) × (1 ≤ slots) × (slots ≤ 64) ⌝ }
     requires { ⌜ Below 512 (now refs) × Below 512 (helds (now desk)) × Below 4096 (nexts (now desk)) ⌝ }
-    ensures { λ r. ⌜ r ≡ chooseFrom (now (refs .entry)) rule d count slots (now (desk .entry)) ⌝ }
+    ensures { λ r. ⌜ r ≡ choiceFrom (now (refs .entry)) rule d count slots (now (desk .entry)) ⌝ }
 {
     let look = lookup::at(desk, lookup::LOOK, d);
     if refs.len() <= look {

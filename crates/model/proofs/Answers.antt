@@ -9,7 +9,7 @@ use Rattle.model.specs.Job.{Job}
 use Rattle.model.specs.Ticket.{slotsField, diskField, refField, ticketReader, ticketOf}
 use Rattle.model.specs.Playing.{noneResident, load, play}
 use Rattle.model.specs.Sheet.{discardReader, fetchReader, actionReader, roundReader, roundsReader, sheetReader, scheduleRead}
-use Rattle.model.specs.Calls.{Counts, Mark, isShort, isSparing, Planned, planAnswer, checkAnswer}
+use Rattle.model.specs.Calls.{Counts, Which, isFirst, isSecond, Mark, isShort, isSparing, Planned, planAnswer, checkAnswer, ChosenSheet, chooseAnswer, countsNumbers, planningNumbers, choiceNumbers, countsWritten}
 
 -- The k bytes whose hexadecimal digits are those of v: `hex 2 0x0018` is 00 18.
 unfoldable pub hex : ℕ → ℕ → List ℕ
@@ -17,17 +17,23 @@ hex zero v = []
 hex (suc k) v = (v / 256 ^ k % 256) ∷ hex k v
 
 -- A call, and what a call gives. `planInto` plans a ticket into two buffers of the lengths that it is given, `plan` into two of the longest sheet's
--- 40,962 bytes.
+-- 40,962 bytes. A call from C, whose last bytes are a slice for its counts, gives what the slice then has.
 pub data Call : Type 0 where
   read : List ℕ → Call
   plan : List ℕ → Call
   planInto : List ℕ → ℕ → ℕ → Call
   check : List ℕ → List ℕ → Call
+  choose : List ℕ → List ℕ → List ℕ → Call
+  planFromC : List ℕ → List ℕ → Call
+  checkFromC : List ℕ → List ℕ → List ℕ → Call
+  chooseFromC : List ℕ → List ℕ → List ℕ → List ℕ → Call
 
 pub data Outcome : Type 0 where
   job : Job → Outcome
   plans : Planned → Outcome
   passes : Counts → Outcome
+  hands : ChosenSheet → Outcome
+  writes : List ℕ → Outcome
   number : ℕ → Outcome
 
 outcomeOf : {A : Type 0} → (A → Outcome) → Answer A → Outcome
@@ -35,11 +41,15 @@ outcomeOf f (given a) = f a
 outcomeOf f (refused n) = number n
 
 unfoldable pub outcome : Call → Outcome
-unfolding outcomeOf ticketOf planAnswer checkAnswer
+unfolding outcomeOf ticketOf planAnswer checkAnswer chooseAnswer countsWritten
 outcome (read t) = outcomeOf job (ticketOf t)
 outcome (plan t) = outcomeOf plans (planAnswer t 40962 40962)
 outcome (planInto t room₁ room₂) = outcomeOf plans (planAnswer t room₁ room₂)
 outcome (check t s) = outcomeOf passes (checkAnswer t s)
+outcome (choose t first second) = outcomeOf hands (chooseAnswer t first second)
+outcome (planFromC t lent) = writes (countsWritten planningNumbers (planAnswer t 40962 40962) lent)
+outcome (checkFromC t s lent) = writes (countsWritten countsNumbers (checkAnswer t s) lent)
+outcome (chooseFromC t first second lent) = writes (countsWritten choiceNumbers (chooseAnswer t first second) lent)
 
 pub record Case : Type 0 where
   pub call : Call
@@ -58,6 +68,9 @@ counts r a b = record { rounds = r; fetches = a ∷ b ∷ 0 ∷ 0 ∷ 0 ∷ 0 �
 
 abbrev planned : Mark → ℕ → Counts → Counts → List ℕ → List ℕ → Outcome
 planned m n a b s t = plans (record { mark = m; partLength = n; short = a; sparing = b; shortSheet = s; sparingSheet = t })
+
+abbrev chose : Which → ℕ → Outcome
+chose w n = hands (record { which = w; sheetLength = n })
 
 -- the tickets of document 01's jobs
 abbrev ticketA : List ℕ
@@ -215,4 +228,29 @@ table =
     row (check ticketA (hex 4 0x00180200)) (number 14) refl ∷
     row (check ticketD (hex 7 0x00380101201808)) (number 14) refl ∷
     row (check ticketD (hex 7 0x00380101201824)) (number 14) refl ∷
+    -- Request L1: "The second is handed back if it takes no more rounds than the first, otherwise the first". F's two sheets of 4 rounds, in either
+    -- order; G's, of 6 and 7 rounds; A's with an idle round more, which is counted.
+    row (choose ticketF (hex 14 0x00480101101a018020480d01c080) (hex 11 0x00480101101a0180081202)) (chose isSecond 11) refl ∷
+    row (choose ticketF (hex 11 0x00480101101a0180081202) (hex 14 0x00480101101a018020480d01c080)) (chose isSecond 14) refl ∷
+    row (choose ticketG (hex 23 0x0068010220140a8090320380a078120280e0481e038080) (hex 23 0x0078010220140a809032038090140703c0c81a0780e020)) (chose isFirst 23) refl ∷
+    row (choose ticketG (hex 23 0x0078010220140a809032038090140703c0c81a0780e020) (hex 23 0x0068010220140a8090320380a078120280e0481e038080)) (chose isSecond 23) refl ∷
+    row (choose ticketA (hex 3 0x001800) (hex 3 0x002800)) (chose isFirst 3) refl ∷
+    -- "both are checked, the first before the second": the ticket's number before either sheet's; the first's before the second's, in both orders; and
+    -- the number of a bad sheet beside a good one.
+    row (choose (hex 6 0x102008001001) [] (hex 2 0x0000)) (number 8) refl ∷
+    row (choose ticketA [] (hex 2 0x0000)) (number 9) refl ∷
+    row (choose ticketA (hex 2 0x0000) []) (number 15) refl ∷
+    row (choose ticketA (hex 3 0x001801) (hex 3 0x001800)) (number 16) refl ∷
+    row (choose ticketA (hex 3 0x001800) (hex 3 0x001801)) (number 16) refl ∷
+    -- From C: "in 16 bits each and most significant byte first: for planning the mark (0 short, 1 sparing), the length of the part, then for the short
+    -- and for the sparing plan the rounds and eight fetch counts; for the check the rounds and eight fetch counts", and by L1 "0 (first) or 1 (second)
+    -- and that sheet's length". "As far as that slice reaches", and no byte more; "a refusal writes nothing there".
+    row (planFromC ticketF (hex 41 0xffffffffffffffffffffffffffffffffffffffffffffffffffffffffffffffffffffffffffffffffff)) (writes (hex 41 0x0001000b000400020004000000000000000000000000000400020003000000000000000000000000ff)) refl ∷
+    row (planFromC ticketG (hex 5 0xffffffffff)) (writes (hex 5 0x0000001700)) refl ∷
+    row (planFromC [] (hex 3 0xffffff)) (writes (hex 3 0xffffff)) refl ∷
+    row (checkFromC ticketF (hex 11 0x00480101101a0180081202) (hex 19 0xffffffffffffffffffffffffffffffffffffff)) (writes (hex 19 0x000400020003000000000000000000000000ff)) refl ∷
+    row (checkFromC ticketA (hex 2 0x0000) (hex 3 0xffffff)) (writes (hex 3 0xffffff)) refl ∷
+    row (chooseFromC ticketF (hex 14 0x00480101101a018020480d01c080) (hex 11 0x00480101101a0180081202) (hex 5 0xffffffffff)) (writes (hex 5 0x0001000bff)) refl ∷
+    row (chooseFromC ticketA (hex 3 0x001800) (hex 3 0x002800) (hex 3 0xffffff)) (writes (hex 3 0x000000)) refl ∷
+    row (chooseFromC ticketA (hex 3 0x001800) (hex 3 0x001801) (hex 3 0xffffff)) (writes (hex 3 0xffffff)) refl ∷
     []

@@ -9,7 +9,7 @@ use native.Mathlib.Omega.{arith}
 use lib.Dec.{ltb, lit<}
 use lib.ListN.{length, getD, take, drop, List·getD-eq-default, length-map}
 use lib.Seq.{take-append-seam}
-use borrow.Author.Tests.{eqb-true, eq-eqb, ltb-true, ltb-false}
+use borrow.Author.Tests.{leb-true, le-leb, ltb-true, ltb-false}
 use Rattle.bits.specs.Bits.{digits, over}
 use Rattle.bits.specs.Reading.{Answer, given, refused}
 use Rattle.bits.proofs.Logic.{by-test, Each}
@@ -22,7 +22,7 @@ use Rattle.model.specs.Rules.{action, Rule, short, sparing}
 use Rattle.model.specs.Plans.{each, choices, planFrom, planOf, scheduleOf}
 use Rattle.model.specs.Sheet.{actionBits, roundBits, roundsBits, sheetBits, sheetOf}
 use Rattle.model.specs.Valid.{ValidFrom, ValidSheet}
-use Rattle.model.specs.Calls.{Counts, countsOf, fetchesOn, shortCounts, sparingCounts, Mark, isShort, isSparing, Planned, markFor, chosen, handed, handedCounts, plannedOf, withRooms, plannedFor, planAnswer, returned, partAfter, passOf, checkFor, checkAnswer}
+use Rattle.model.specs.Calls.{Counts, countsOf, fetchesOn, shortCounts, sparingCounts, Which, isFirst, isSecond, ofTwo, whichFor, Mark, isShort, isSparing, Planned, markFor, chosen, handed, handedCounts, plannedOf, withRooms, plannedFor, planAnswer, returned, partAfter, passOf, checkFor, checkAnswer}
 use Rattle.model.proofs.Choosing.{Lawful, short-lawful, sparing-lawful}
 use Rattle.model.proofs.Rounds.{ready-start, ready-after}
 use Rattle.model.specs.Valid.{Ready}
@@ -233,14 +233,30 @@ planned t a b p e = go (ticketOf t) refl e
     go (given j) q h = (j, q, fits _ h)
     go (refused n) q h = refused-given h
 
--- the mark is sparing exactly when both take equally many rounds
-marked-sparing : (t : Bool) → cond t isSparing isShort ≡ isSparing → t ≡ true
-marked-sparing true e = refl
-marked-sparing false e = let z : _≡_ {A = ℕ} 0 1 = cc in absurd (omega arith)
+-- the second is handed back exactly if it takes no more rounds, and the mark is sparing exactly if the sparing plan takes no more
+picked-second : (t : Bool) → cond t isSecond isFirst ≡ isSecond → t ≡ true
+picked-second true e = refl
+picked-second false e = let z : _≡_ {A = ℕ} 0 1 = cc in absurd (omega arith)
 
-mark-sparing : (a b : ℕ) → (markFor a b ≡ isSparing) ↔ (a ≡ b)
+pub which-second : (a b : ℕ) → (whichFor a b ≡ isSecond) ↔ (b ≤ a)
+unfolding whichFor
+which-second a b = (λ e. leb-true b a (picked-second _ e), λ l. ap (λ (t : Bool). cond t isSecond isFirst) (le-leb b a l))
+
+marked-second : (w : Which) → (ofTwo w isShort isSparing ≡ isSparing) ↔ (w ≡ isSecond)
+marked-second isFirst = (λ e. let z : _≡_ {A = ℕ} 0 1 = cc in absurd (omega arith), λ e. let z : _≡_ {A = ℕ} 0 1 = cc in absurd (omega arith))
+marked-second isSecond = (λ e. refl, λ e. refl)
+
+pub mark-second : (a b : ℕ) → (markFor a b ≡ isSparing) ↔ (whichFor a b ≡ isSecond)
 unfolding markFor
-mark-sparing a b = (λ e. eqb-true a b (marked-sparing _ e), λ e. ap (λ (t : Bool). cond t isSparing isShort) (eq-eqb a b e))
+mark-second a b = marked-second (whichFor a b)
+
+mark-sparing : (a b : ℕ) → (markFor a b ≡ isSparing) ↔ (b ≤ a)
+mark-sparing a b = (λ e. which-second a b .0 (mark-second a b .0 e), λ l. mark-second a b .1 (which-second a b .1 l))
+
+-- what belongs to the marked plan belongs to the sheet that is handed back
+pub chosen-two : {A : Type 0} (w : Which) (a b : A) → chosen (ofTwo w isShort isSparing) a b ≡ ofTwo w a b
+chosen-two isFirst a b = refl
+chosen-two isSecond a b = refl
 
 -- what is said of the sheet handed back
 abbrev HandedBack : List ℕ → Planned → Type 0
@@ -258,8 +274,18 @@ unfolding shortCounts sparingCounts
 handed-of t j e isShort q = (schedule-passes short short-lawful t j e, λ s c h. unbeaten t s j c e h .0)
 handed-of t j e isSparing q = (
   schedule-passes sparing sparing-lawful t j e,
-  λ s c h. (let k = unbeaten t s j c e h .0 in let same = mark-sparing (rounds (scheduleOf short j)) (rounds (scheduleOf sparing j)) .0 q in omega (arith, k, same)),
+  λ s c h. (let k = unbeaten t s j c e h .0 in let few = mark-sparing (rounds (scheduleOf short j)) (rounds (scheduleOf sparing j)) .0 q in omega (arith, k, few)),
 )
+
+-- the sparing plan takes no fewer rounds than the short one, so no more means equally many
+mark-equal : (t : List ℕ) (j : Job) → ticketOf t ≡ given j
+    → (markFor (rounds (scheduleOf short j)) (rounds (scheduleOf sparing j)) ≡ isSparing) ↔ (rounds (scheduleOf short j) ≡ rounds (scheduleOf sparing j))
+unfolding shortCounts countsOf
+mark-equal t j e =
+    let a = rounds (scheduleOf short j) in
+    let b = rounds (scheduleOf sparing j) in
+    let least : a ≤ b = unbeaten t (sheetOf (scheduleOf sparing j)) j (countsOf (scheduleOf sparing j)) e (schedule-passes sparing sparing-lawful t j e) .0 in
+    (λ q. let few = mark-sparing a b .0 q in omega (arith, least, few), λ q. mark-sparing a b .1 (omega (arith, q)))
 
 part-of : (a b : Schedule) (m : Mark) → length (chosen m (sheetOf a) (sheetOf b)) ≡ chosen m (length (sheetOf a)) (length (sheetOf b))
 part-of a b isShort = refl
@@ -272,7 +298,7 @@ handed-back t a b p e =
     let j = w .0 in
     let h = handed-of t j (w .1) (markFor (rounds (scheduleOf short j)) (rounds (scheduleOf sparing j))) refl in
     subst (HandedBack t) (w .2) (
-      mark-sparing (rounds (scheduleOf short j)) (rounds (scheduleOf sparing j)),
+      mark-equal t j (w .1),
       part-of (scheduleOf short j) (scheduleOf sparing j) (markFor (rounds (scheduleOf short j)) (rounds (scheduleOf sparing j))),
       h .0,
       λ s c pass. (h .1 s c pass, unbeaten t s j c (w .1) pass .1),

@@ -19,4 +19,5 @@ pub mod Sparing
 pub mod Written
 pub mod Validity
 pub mod Bytes
+pub mod TwoSheets
 pub mod Promises

@@ -1,7 +1,7 @@
 -- Document 01, "Ticket and sheet": "The longest ticket has 2,507 bytes, the longest sheet 40,962." Assumes nothing.
 use mathlib.Core.Path.{_≡_, refl, sym, ap, _∙_}
 use mathlib.Core.List.{List, [], _∷_, _++_}
-use Prim.Native.Nat.{ℕ, zero, suc, _+_, _*_, _≤_}
+use Prim.Native.Nat.{ℕ, zero, suc, _+_, _*_, _≤_, _<_, _^_}
 use native.Mathlib.Nat.{add-comm, zero-mul, suc-mul}
 use native.Mathlib.Omega.{arith}
 use lib.ListN.{length, replicate, length-append, length-replicate}
@@ -121,3 +121,6 @@ passed-length t s c e =
     let n = length-rounds schedule (allowed-each (p .job) (p .sound .fewDisks) (start (p .job)) schedule (r .allowed)) in
     let l = length-bits s in
     omega (arith, w, a, d, n, l, r .few, r .short)
+
+pub passed-16-bits : (t s : List ℕ) (c : Counts) → checkAnswer t s ≡ given c → length s < 2 ^ 16
+passed-16-bits t s c e = let few = passed-length t s c e in omega (arith, few)

@@ -1,13 +1,14 @@
--- All that is promised of tickets and sheets, over bytes, in document 01's terms. Each promise is closed by one citation. `ticketOf`, `checkAnswer` and
--- `planAnswer` (specs/Ticket.antt, specs/Calls.antt) say what document 01's calls give for any bytes: `given` a value, or `refused` with a number.
--- The code is tied to them by its contracts, which are equations with these definitions for every input: `planner::check` returns `checkAnswer`,
--- `planner::plan` returns and writes `planAnswer`, `planner::part` gives `partOf` (crates/planner/src/lib.rt). Assumes nothing.
+-- All that is promised of tickets and sheets, over bytes, in the terms of documents 01 and 02. Each promise is closed by one citation. `ticketOf`,
+-- `checkAnswer`, `planAnswer` and `chooseAnswer` (specs/Ticket.antt, specs/Calls.antt) say what the papers' calls give for any bytes: `given` a value,
+-- or `refused` with a number. The code is tied to them by its contracts, which are equations with these definitions for every input: `planner::check`
+-- returns `checkAnswer`, `planner::plan` returns and writes `planAnswer`, `planner::part` gives `partOf`, `planner::choose` returns `chooseAnswer`,
+-- `planner::chosen_sheet` gives `sheetHanded` (crates/planner/src/lib.rt). Assumes nothing.
 use mathlib.Core.Path.{_≡_}
-use mathlib.Core.Logic.{_↔_}
+use mathlib.Core.Logic.{_↔_, _⊎_}
 use mathlib.Core.Bool.{true}
 use mathlib.Core.List.{List, []}
 use mathlib.Core.Option.{none, some}
-use Prim.Native.Nat.{ℕ, suc, _≤_, _<_}
+use Prim.Native.Nat.{ℕ, suc, _≤_, _<_, _^_}
 use lib.ListN.{length, take, replicate}
 use Rattle.bits.specs.Bits.{pack}
 use Rattle.bits.specs.Reading.{given, refused}
@@ -18,10 +19,11 @@ use Rattle.model.specs.Rules.{short, sparing}
 use Rattle.model.specs.Plans.{scheduleOf}
 use Rattle.model.specs.Sheet.{sheetOf}
 use Rattle.model.specs.Valid.{ValidTicket, ValidSheet}
-use Rattle.model.specs.Calls.{Counts, countsOf, fetchesOn, AllZero, shortCounts, sparingCounts, isSparing, Planned, handed, handedCounts, planAnswer, shortAfter, sparingAfter, returned, partAfter, checkAnswer, countsGiven, checkRefusals, planRefusals, among, countsNumbers, planningNumbers, countsWritten}
+use Rattle.model.specs.Calls.{Counts, countsOf, fetchesOn, AllZero, shortCounts, sparingCounts, isSecond, ofTwo, isSparing, Planned, handed, handedCounts, planAnswer, shortAfter, sparingAfter, returned, partAfter, checkAnswer, countsGiven, ChosenSheet, chosenOf, chooseAnswer, returnedChoice, sheetAfter, checkRefusals, planRefusals, among, countsNumbers, planningNumbers, choiceNumbers, countsWritten}
 use Rattle.model.proofs.Choosing.{short-lawful, sparing-lawful}
 use Rattle.model.proofs.Ticket
 use Rattle.model.proofs.Bytes
+use Rattle.model.proofs.TwoSheets
 use Rattle.model.proofs.Refusals
 use Rattle.model.proofs.Longest
 
@@ -121,3 +123,68 @@ sheet-length = Longest.passed-length
 
 pub sheet-longest : length (sheetOf (replicate 2048 (replicate 8 (replace 1 0)))) ≡ 40962
 sheet-longest = Longest.sheet-longest
+
+-- so its length, and that of a sheet handed back, needs no more than 16 bits
+pub sheet-16-bits : (t s : List ℕ) (c : Counts) → checkAnswer t s ≡ given c → length s < 2 ^ 16
+sheet-16-bits = Longest.passed-16-bits
+
+-- 5. Request L1, the choice between two sheets, whoever drew them up. It gives something exactly if both pass the check: the second sheet if it takes
+-- no more rounds than the first, otherwise the first, and that sheet's length (`chosenOf`, specs/Calls.antt).
+pub chooses-exactly : (t first second : List ℕ) (c : ChosenSheet) → (chooseAnswer t first second ≡ given c)
+    ↔ ((a : Counts) × (b : Counts) × (checkAnswer t first ≡ given a) × (checkAnswer t second ≡ given b) × (chosenOf first second a b ≡ c))
+chooses-exactly = TwoSheets.chooses-exactly
+
+-- "both are checked, the first before the second, and a failure gives the check's number": it is refused with n exactly if the check of the first
+-- sheet is, or if the first passes and the check of the second is refused with n. (A bad ticket refuses both checks, with its number.)
+pub choose-refusals : (t first second : List ℕ) (n : ℕ) → (chooseAnswer t first second ≡ refused n)
+    ↔ ((checkAnswer t first ≡ refused n) ⊎ ((a : Counts) × (checkAnswer t first ≡ given a) × (checkAnswer t second ≡ refused n)))
+choose-refusals = TwoSheets.choose-refusals
+
+-- A refused choice gives one of 1 to 16, and each of these is given for some bytes; it hands back no sheet and changes no lent byte.
+pub choose-numbers : (n : ℕ) → (among n checkRefusals ≡ true) ↔ ((t : List ℕ) × (first : List ℕ) × (second : List ℕ) × (chooseAnswer t first second ≡ refused n))
+choose-numbers = Refusals.choose-numbers
+
+pub choose-refused : (n : ℕ) (first second lent : List ℕ)
+    → (let r = returnedChoice (refused n) in (r .number ≡ n) × (r .which ≡ none) × (r .sheetLength ≡ 0))
+    × (sheetAfter (refused n) first second ≡ [])
+    × (countsWritten choiceNumbers (refused n) lent ≡ lent)
+choose-refused = Refusals.choose-refused
+
+-- The sheet handed back is the second exactly if that takes no more rounds; it passes the check, is as long as is said, and takes no more rounds than
+-- the other.
+pub chosen-passes : (t first second : List ℕ) (a b : Counts) (c : ChosenSheet) → checkAnswer t first ≡ given a → checkAnswer t second ≡ given b
+    → chooseAnswer t first second ≡ given c
+    → ((c .which ≡ isSecond) ↔ (b .rounds ≤ a .rounds))
+    × (checkAnswer t (ofTwo (c .which) first second) ≡ given (ofTwo (c .which) a b))
+    × (length (ofTwo (c .which) first second) ≡ c .sheetLength)
+    × (ofTwo (c .which) a b .rounds ≤ a .rounds)
+    × (ofTwo (c .which) a b .rounds ≤ b .rounds)
+chosen-passes = TwoSheets.chosen-passes
+
+-- It returns the number 0, which sheet that is, and its length.
+pub choose-given : (t first second : List ℕ) (c : ChosenSheet) → chooseAnswer t first second ≡ given c
+    → (let r = returnedChoice (given c) in (r .number ≡ 0) × (r .which ≡ some (c .which)) × (r .sheetLength ≡ length (ofTwo (c .which) first second)))
+choose-given = TwoSheets.choose-given
+
+-- What is handed back of the two sheets is that one, byte for byte. (`choose-refused` has what is handed back after a refusal;
+-- crates/planner/proofs/Joined.antt says both of the values of the code.)
+pub sheet-handed : (t first second : List ℕ) (c : ChosenSheet) → chooseAnswer t first second ≡ given c → sheetAfter (given c) first second ≡ ofTwo (c .which) first second
+sheet-handed = TwoSheets.sheet-handed
+
+-- Between planning's own two sheets, the short one first, the choice is not refused. It is the second exactly if planning's mark is sparing, and hands
+-- back what planning does.
+pub chosen-as-planned : (t : List ℕ) (room₁ room₂ : ℕ) (p : Planned) → planAnswer t room₁ room₂ ≡ given p
+    → (c : ChosenSheet) × (chooseAnswer t (p .shortSheet) (p .sparingSheet) ≡ given c)
+    × ((c .which ≡ isSecond) ↔ (p .mark ≡ isSparing))
+    × (c .sheetLength ≡ p .partLength)
+    × (sheetAfter (given c) (p .shortSheet) (p .sparingSheet) ≡ handed p)
+chosen-as-planned = TwoSheets.chosen-as-planned
+
+-- With the short plan's sheet first, nobody's second sheet is handed back unless it takes equally many rounds.
+pub short-first : (t s : List ℕ) (j : Job) (b : Counts) (c : ChosenSheet) → ticketOf t ≡ given j → checkAnswer t s ≡ given b
+    → chooseAnswer t (sheetOf (scheduleOf short j)) s ≡ given c → (c .which ≡ isSecond) ↔ (b .rounds ≡ shortCounts j .rounds)
+short-first = TwoSheets.short-first
+
+-- The length that is given, and written from C, needs no more than 16 bits.
+pub chosen-length : (t first second : List ℕ) (c : ChosenSheet) → chooseAnswer t first second ≡ given c → c .sheetLength < 2 ^ 16
+chosen-length = TwoSheets.chosen-length

@@ -13,8 +13,9 @@ use Rattle.model.specs.Ticket.{slotsField, diskField, refField, ticketRe
 use Rattle.model.specs.Playing.{noneResident, start, load, play}
 use Rattle.model.specs.Plans.{each}
 use Rattle.model.specs.Sheet.{discardReader, fetchReader, actionReader, roundReader, roundsReader, sheetReader, scheduleRead}
-use Rattle.model.specs.Calls.{noCounts, AllZero, planAnswer, written, shortAfter, sparingAfter, returned, partAfter, checkAnswer, countsGiven, checkRefusals, planRefusals, among, countsNumbers, planningNumbers, countsWritten}
+use Rattle.model.specs.Calls.{noCounts, AllZero, planAnswer, written, shortAfter, sparingAfter, returned, partAfter, checkAnswer, countsGiven, chooseAnswer, returnedChoice, sheetAfter, checkRefusals, planRefusals, among, countsNumbers, planningNumbers, choiceNumbers, countsWritten}
 use Rattle.model.proofs.Numbers.{check-number, plan-number}
+use Rattle.model.proofs.TwoSheets.{first-refused, choose-number}
 use Rattle.model.proofs.Answers.{hex}
 
 infixr 5 _⊳_
@@ -74,6 +75,13 @@ plans =
     (hex 6 0x102008001000, 3, 2, refl) ⊳
     end
 
+-- both sheets of a choice may be the sheet for which the check is refused
+pub choose-numbers : (n : ℕ) → (among n checkRefusals ≡ true) ↔ ((t : List ℕ) × (first : List ℕ) × (second : List ℕ) × (chooseAnswer t first second ≡ refused n))
+choose-numbers n = (
+  λ h. (let w = all-among checks n h in (w .0, w .1, w .1, first-refused (w .0) (w .1) (w .1) n (w .2))),
+  λ w. choose-number (w .0) (w .1) (w .2) n (w .3),
+)
+
 pub check-numbers : (n : ℕ) → (among n checkRefusals ≡ true) ↔ CheckRefused n
 check-numbers n = (all-among checks n, λ w. check-number (w .0) (w .1) n (w .2))
 
@@ -88,6 +96,13 @@ all-zero = (refl, λ d. getD-same 8 d 0)
 pub check-refused : (n : ℕ) (lent : List ℕ) → AllZero (countsGiven (refused n)) × (countsWritten countsNumbers (refused n) lent ≡ lent)
 unfolding countsWritten
 check-refused n lent = (all-zero, refl)
+
+pub choose-refused : (n : ℕ) (first second lent : List ℕ)
+    → (let r = returnedChoice (refused n) in (r .number ≡ n) × (r .which ≡ none) × (r .sheetLength ≡ 0))
+    × (sheetAfter (refused n) first second ≡ [])
+    × (countsWritten choiceNumbers (refused n) lent ≡ lent)
+unfolding returnedChoice sheetAfter countsWritten
+choose-refused n first second lent = ((refl, refl, refl), refl, refl)
 
 pub plan-refused : (n : ℕ) (lent other : List ℕ)
     → (let r = returned (refused n) in (r .number ≡ n) × (r .mark ≡ none) × (r .partLength ≡ 0) × AllZero (r .short) × AllZero (r .sparing))

@@ -1,11 +1,12 @@
--- What planning and checking give: document 01, "The two plans", its last three paragraphs, and "Numbers of a refused call". `planAnswer` and
--- `checkAnswer` are the two calls; `crates/planner/src/lib.rt` has the functions whose contracts are equations with them. Assumes nothing.
+-- What planning, checking and choosing give: document 01, "The two plans", its last three paragraphs, and "Numbers of a refused call"; request L1 of
+-- document 02, "Choosing between sheets we already hold". `planAnswer`, `checkAnswer` and `chooseAnswer` are the three calls;
+-- `crates/planner/src/lib.rt` has the functions whose contracts are equations with them. Assumes nothing.
 use mathlib.Core.Path.{_≡_}
 use mathlib.Core.Bool.{Bool, false, cond, _||_}
 use mathlib.Core.List.{List, [], _∷_, _++_}
 use mathlib.Core.Option.{Option, none, some}
 use Prim.Native.Nat.{ℕ}
-use lib.Dec.{ltb, eqb}
+use lib.Dec.{ltb, leb, eqb}
 use lib.ListN.{length, getD, replicate, take}
 use Rattle.bits.specs.Bits.{be16, over, laid}
 use Rattle.bits.specs.Reading.{Answer, given, refused}
@@ -46,16 +47,32 @@ unfoldable pub sparingCounts : Job → Counts
 unfolding countsOf scheduleOf sparing
 sparingCounts j = countsOf (scheduleOf sparing j)
 
+-- which of two sheets
+pub data Which : Type 0 where
+  isFirst : Which
+  isSecond : Which
+
+-- what belongs to that sheet, of what belongs to the first and to the second
+abbrev pub ofTwo : {A : Type 0} → Which → A → A → A
+ofTwo isFirst ofFirst ofSecond = ofFirst
+ofTwo isSecond ofFirst ofSecond = ofSecond
+
+-- L1: "The second is handed back if it takes no more rounds than the first, otherwise the first." The choice between two sheets, by their rounds;
+-- planning and `chooseAnswer` both make it.
+unfoldable pub whichFor : ℕ → ℕ → Which
+whichFor firstRounds secondRounds = cond (leb secondRounds firstRounds) isSecond isFirst
+
 -- "the mark (short or sparing)"
 pub data Mark : Type 0 where
   isShort : Mark
   isSparing : Mark
 
--- "Planning hands back the sparing sheet exactly when both take equally many rounds, otherwise the short one" (the mission's demand 3): the choice
--- between two plans, by the rounds of the short and of the sparing one. "The choice between two sheets is an inner step which trusts its caller
--- that both passed."
+-- Planning's choice, of the short sheet as the first and the sparing one as the second. "Planning hands back the sparing sheet exactly when both
+-- take equally many rounds, otherwise the short one" (demand 3, docs/SCOPE.md): the sparing plan never takes fewer, so that is `handed-back` of the
+-- promises.
 unfoldable pub markFor : ℕ → ℕ → Mark
-markFor shortRounds sparingRounds = cond (eqb shortRounds sparingRounds) isSparing isShort
+unfolding whichFor
+markFor shortRounds sparingRounds = ofTwo (whichFor shortRounds sparingRounds) isShort isSparing
 
 -- what belongs to the marked plan, of what belongs to the short and to the sparing one
 abbrev pub chosen : {A : Type 0} → Mark → A → A → A
@@ -164,6 +181,51 @@ abbrev pub countsGiven : Answer Counts → Counts
 countsGiven (given c) = c
 countsGiven (refused n) = noCounts
 
+-- What a choice that is not refused gives: which sheet is handed back, and its length.
+pub record ChosenSheet : Type 0 where
+  pub which : Which
+  pub sheetLength : ℕ
+
+unfoldable pub chosenOf : List ℕ → List ℕ → Counts → Counts → ChosenSheet
+unfolding whichFor
+chosenOf first second a b =
+    let w = whichFor (a .rounds) (b .rounds) in
+    record { which = w; sheetLength = length (ofTwo w first second) }
+
+-- L1: "both are checked, the first before the second, and a failure gives the check's number", from what the check gives for each.
+unfoldable pub chosenFrom : List ℕ → List ℕ → Answer Counts → Answer Counts → Answer ChosenSheet
+unfolding chosenOf
+chosenFrom first second (refused n) checked = refused n
+chosenFrom first second (given a) (refused n) = refused n
+chosenFrom first second (given a) (given b) = given (chosenOf first second a b)
+
+-- A call of the choice: "a call of its own on a ticket and two sheets".
+unfoldable pub chooseAnswer : List ℕ → List ℕ → List ℕ → Answer ChosenSheet
+unfolding chosenFrom checkAnswer
+chooseAnswer ticket first second = chosenFrom first second (checkAnswer ticket first) (checkAnswer ticket second)
+
+-- What the call returns. A refusal hands back no sheet.
+pub record ReturnedChoice : Type 0 where
+  pub number : ℕ
+  pub which : Option Which
+  pub sheetLength : ℕ
+
+unfoldable pub returnedChoice : Answer ChosenSheet → ReturnedChoice
+returnedChoice (given c) = record { number = 0; which = some (c .which); sheetLength = c .sheetLength }
+returnedChoice (refused n) = record { number = n; which = none; sheetLength = 0 }
+
+-- The sheet handed back: the first n bytes of the one that is said, or none.
+unfoldable pub sheetHanded : Option Which → ℕ → List ℕ → List ℕ → List ℕ
+sheetHanded none n first second = []
+sheetHanded (some w) n first second = take n (ofTwo w first second)
+
+-- that sheet, of the two sheets of a choice
+unfoldable pub sheetAfter : Answer ChosenSheet → List ℕ → List ℕ → List ℕ
+unfolding returnedChoice sheetHanded
+sheetAfter a first second =
+    let r = returnedChoice a in
+    sheetHanded (r .which) (r .sheetLength) first second
+
 -- The numbers of "Numbers of a refused call": those of a ticket, of a sheet and of the rooms;
 abbrev pub ticketNumbers : List ℕ
 ticketNumbers = each (λ n. n) 1 8
@@ -174,7 +236,7 @@ sheetNumbers = each (λ n. n) 9 8
 abbrev pub roomNumbers : List ℕ
 roomNumbers = 17 ∷ 18 ∷ []
 
--- and with which of them a check and a planning call are refused
+-- and with which of them a check and a choice, and a planning call, are refused
 abbrev pub checkRefusals : List ℕ
 checkRefusals = ticketNumbers ++ sheetNumbers
 
@@ -203,6 +265,10 @@ countsNumbers c = c .rounds ∷ c .fetches
 -- counts; for the check the rounds and eight fetch counts"
 abbrev pub planningNumbers : Planned → List ℕ
 planningNumbers p = chosen (p .mark) 0 1 ∷ p .partLength ∷ (countsNumbers (p .short) ++ countsNumbers (p .sparing))
+
+-- L1: "From C it writes 0 (first) or 1 (second) and that sheet's length, 16 bits each"
+abbrev pub choiceNumbers : ChosenSheet → List ℕ
+choiceNumbers c = ofTwo (c .which) 0 1 ∷ c .sheetLength ∷ []
 
 -- The lent slice for the counts after the call: "as far as that slice reaches"; "a refusal writes nothing there".
 unfoldable pub countsWritten : {A : Type 0} → (A → List ℕ) → Answer A → List ℕ → List ℕ

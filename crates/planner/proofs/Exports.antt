@@ -2,7 +2,7 @@
 use mathlib.Core.Path.{_≡_, refl, sym, ap, _∙_}
 use mathlib.Core.List.{List, _∷_}
 use mathlib.Core.Option.{some}
-use Prim.Native.Nat.{ℕ}
+use Prim.Native.Nat.{ℕ, _≤_}
 use native.Mathlib.Omega.{arith}
 use lib.ListN.{getD}
 use mir.Val.{Fits as Machine}
@@ -12,16 +12,20 @@ use Rattle.bits.specs.Fields.{laidAt}
 use Rattle.bits.specs.Reading.{Answer, given, refused}
 use Rattle.model.specs.Playing.{Schedule}
 use Rattle.model.specs.Plans.{each}
-use Rattle.model.specs.Calls.{Counts, countsOf, isShort, isSparing, chosen, checkAnswer, planAnswer, plannedOf, returned, numberOf, halves, countsNumbers, planningNumbers, countsWritten}
+use Rattle.model.specs.Calls.{countsOf, ofTwo, isShort, isSparing, chosen, checkAnswer, planAnswer, plannedOf, returned, ChosenSheet, chooseAnswer, returnedChoice, numberOf, halves, countsNumbers, planningNumbers, choiceNumbers, countsWritten}
 use Rattle.model.specs.Calls.{Planned as PlanGiven}
 use Rattle.model.specs.Calls.{Mark as MarkGiven}
-use Rattle.model.proofs.Numbers.{check-within, plan-within}
+use Rattle.model.proofs.Numbers.{plan-within}
+use Rattle.model.proofs.TwoSheets.{choose-within}
 use Rattle.model.proofs.Bytes
 use Rattle.checking.specs.Checking.{checkedOf}
 use Rattle.checking.specs.declared.Checked.{Checked}
-use Rattle.planner.specs.Planner.{markAs, plannedAs, markNumber}
+use Rattle.planner.specs.Planner.{markAs, plannedAs, markNumber, ofWhich, chosenAs}
 use Rattle.planner.specs.declared.Planned.{Planned}
-use Rattle.planner.proofs.Laying.{laid-twenty}
+use Rattle.planner.specs.declared.Chosen.{Chosen}
+use Rattle.planner.proofs.Laws.{refused-by, given-by, number-small, sixteen, check-few, check-is, check-passing}
+use Rattle.planner.proofs.TwoSheets.{two-chosen}
+use Rattle.planner.proofs.Laying.{laid-two, laid-twenty}
 
 -- the numbers that the code writes for a schedule's counts
 abbrev numbersOf : ℕ → List ℕ → List ℕ
@@ -31,43 +35,34 @@ same-numbers : (schedule : Schedule) → numbersOf (countsOf schedule .rounds) (
 unfolding countsOf each
 same-numbers schedule = refl
 
+-- A call that is refused writes nothing; one that is not writes its numbers.
+module _ {A : Type 0} (numbers : A → List ℕ) (a : Answer A) (number : ℕ) (e : number ≡ numberOf a) where
+  pub stopped : (lent : List ℕ) → (number ≡ 0 → ⊥) → (number ≡ numberOf a) × (lent ≡ countsWritten numbers a lent)
+  unfolding countsWritten
+  stopped lent f = (e, ap (λ (x : Answer A). countsWritten numbers x lent) (sym (refused-by a number e f)))
+
+  wrote : (lent lent′ : List ℕ) (v : A) → a ≡ given v → number ≡ 0 → lent′ ≡ laidAt 0 (halves (numbers v)) lent → (0 ≡ numberOf a) × (lent′ ≡ countsWritten numbers a lent)
+  unfolding countsWritten laidAt
+  wrote lent lent′ v q z w = (sym z ∙ e, w ∙ ap (λ (x : Answer A). countsWritten numbers x lent) (sym q))
+
 -- The check.
 
 module _ (t s : List ℕ) (r : Checked) (e : r ≡ checkedOf (checkAnswer t s)) where
-  check-is : r .number ≡ numberOf (checkAnswer t s)
-  unfolding checkedOf
-  check-is = ap (λ (x : Checked). x .number) e ∙ go (checkAnswer t s)
-    where
-      go : (a : Answer Counts) → checkedOf a .number ≡ numberOf a
-      go (given c) = refl
-      go (refused n) = refl
-
   pub check-small : Machine w32 (r .number)
-  check-small = go (checkAnswer t s) refl check-is
-    where
-      go : (a : Answer Counts) → checkAnswer t s ≡ a → r .number ≡ numberOf a → Machine w32 (r .number)
-      go (given c) q h = omega (arith, h)
-      go (refused n) q h = let b = check-within t s n q .1 in omega (arith, b, h)
+  check-small = number-small (checkAnswer t s) (check-few t s) (r .number) (check-is t s r e)
 
   pub check-stopped : (lent : List ℕ) → (r .number ≡ 0 → ⊥) → (r .number ≡ numberOf (checkAnswer t s)) × (lent ≡ countsWritten countsNumbers (checkAnswer t s) lent)
-  unfolding countsWritten
-  check-stopped lent f = (check-is, go (checkAnswer t s) check-is)
-    where
-      go : (a : Answer Counts) → r .number ≡ numberOf a → lent ≡ countsWritten countsNumbers a lent
-      go (given c) h = absurd (f h)
-      go (refused n) h = refl
+  check-stopped = stopped countsNumbers (checkAnswer t s) (r .number) (check-is t s r e)
 
   pub check-passed : (lent lent′ : List ℕ) → r .number ≡ 0 → lent′ ≡ laidAt 0 (halves (numbersOf (r .rounds) (r .fetches))) lent
       → (0 ≡ numberOf (checkAnswer t s)) × (lent′ ≡ countsWritten countsNumbers (checkAnswer t s) lent)
-  unfolding countsWritten checkedOf laidAt
-  check-passed lent lent′ z w = (sym z ∙ check-is, w ∙ go (checkAnswer t s) refl)
-    where
-      go : (a : Answer Counts) → checkAnswer t s ≡ a → laidAt 0 (halves (numbersOf (r .rounds) (r .fetches))) lent ≡ countsWritten countsNumbers a lent
-      go (given c) q =
-          let v = Bytes.passes-valid t s c q in
-          let same = e ∙ ap checkedOf (q ∙ ap given (sym (v .4))) in
-          ap (λ (l : List ℕ). laidAt 0 (halves l) lent) (ap (λ (x : Checked). numbersOf (x .rounds) (x .fetches)) same ∙ same-numbers (v .1) ∙ ap countsNumbers (v .4))
-      go (refused n) q = let b = check-within t s n q .0 in let h : r .number ≡ n = check-is ∙ ap numberOf q in absurd (omega (arith, b, h, z))
+  unfolding checkedOf
+  check-passed lent lent′ z w =
+      let p = check-passing t s r e z in
+      let v = Bytes.passes-valid t s (p .0) (p .1) in
+      let same = e ∙ ap checkedOf (p .1 ∙ ap given (sym (v .4))) in
+      wrote countsNumbers (checkAnswer t s) (r .number) (check-is t s r e) lent lent′ (p .0) (p .1) z
+      (w ∙ ap (λ (l : List ℕ). laidAt 0 (halves l) lent) (ap (λ (x : Checked). numbersOf (x .rounds) (x .fetches)) same ∙ same-numbers (v .1) ∙ ap countsNumbers (v .4)))
 
 -- Planning.
 
@@ -99,31 +94,56 @@ module _ (t : List ℕ) (a b : ℕ) (r : Planned) (e : r ≡ plannedAs (returned
       go (refused n) = refl
 
   pub plan-small : Machine w32 (r .number)
-  plan-small = go (planAnswer t a b) refl plan-is
-    where
-      go : (x : Answer PlanGiven) → planAnswer t a b ≡ x → r .number ≡ numberOf x → Machine w32 (r .number)
-      go (given c) q h = omega (arith, h)
-      go (refused n) q h = let k = plan-within t a b n q .1 in omega (arith, k, h)
+  plan-small = number-small (planAnswer t a b) (plan-within t a b) (r .number) plan-is
 
   pub plan-stopped : (lent : List ℕ) → (r .number ≡ 0 → ⊥) → (r .number ≡ numberOf (planAnswer t a b)) × (lent ≡ countsWritten planningNumbers (planAnswer t a b) lent)
-  unfolding countsWritten
-  plan-stopped lent f = (plan-is, go (planAnswer t a b) plan-is)
-    where
-      go : (x : Answer PlanGiven) → r .number ≡ numberOf x → lent ≡ countsWritten planningNumbers x lent
-      go (given c) h = absurd (f h)
-      go (refused n) h = refl
+  plan-stopped = stopped planningNumbers (planAnswer t a b) (r .number) plan-is
 
   pub plan-passed : (lent l₁ l₂ l₃ l₄ : List ℕ) (m : ℕ) → r .number ≡ 0 → m ≡ markNumber (r .mark) → l₁ ≡ laidAt 0 (be16 m) lent → l₂ ≡ laidAt 2 (be16 (r .length)) l₁
       → l₃ ≡ laidAt 4 (halves (numbersOf (r .short .rounds) (r .short .fetches))) l₂ → l₄ ≡ laidAt 22 (halves (numbersOf (r .sparing .rounds) (r .sparing .fetches))) l₃
       → (0 ≡ numberOf (planAnswer t a b)) × (l₄ ≡ countsWritten planningNumbers (planAnswer t a b) lent)
-  unfolding countsWritten laidAt
-  plan-passed lent l₁ l₂ l₃ l₄ m z k f g h w = (sym z ∙ plan-is, rw (w, h, g, f, k) (go (planAnswer t a b) refl))
+  plan-passed lent l₁ l₂ l₃ l₄ m z k f g h w =
+      let p = given-by (planAnswer t a b) (plan-within t a b) (r .number) plan-is z in
+      let q = Bytes.planned t a b (p .0) (p .1) in
+      let same = e ∙ ap (λ (x : Answer PlanGiven). plannedAs (returned x)) (p .1 ∙ ap given (sym (q .2))) in
+      let twenty : l₄ ≡ twentyLaid (markNumber (r .mark)) r lent = rw (w, h, g, f, k) refl in
+      wrote planningNumbers (planAnswer t a b) (r .number) plan-is lent l₄ (p .0) (p .1) z
+      (twenty
+      ∙ ap (λ (v : Planned). twentyLaid (markNumber (v .mark)) v lent) same
+      ∙ twenty-planned _ _ lent
+      ∙ ap (λ (x : PlanGiven). laidAt 0 (halves (planningNumbers x)) lent) (q .2))
+
+-- The choice.
+
+module _ (t first second : List ℕ) (r : Chosen) (e : r ≡ chosenAs (returnedChoice (chooseAnswer t first second))) where
+  choice-is : r .number ≡ numberOf (chooseAnswer t first second)
+  unfolding chosenAs returnedChoice
+  choice-is = ap (λ (x : Chosen). x .number) e ∙ go (chooseAnswer t first second)
     where
-      go : (u : Answer PlanGiven) → planAnswer t a b ≡ u → twentyLaid (markNumber (r .mark)) r lent ≡ countsWritten planningNumbers u lent
-      go (given p) q =
-          let w = Bytes.planned t a b p q in
-          let h = e ∙ ap (λ (x : Answer PlanGiven). plannedAs (returned x)) (q ∙ ap given (sym (w .2))) in
-          ap (λ (v : Planned). twentyLaid (markNumber (v .mark)) v lent) h
-          ∙ twenty-planned _ _ lent
-          ∙ ap (λ (x : PlanGiven). laidAt 0 (halves (planningNumbers x)) lent) (w .2)
-      go (refused n) q = let l = plan-within t a b n q .0 in let h : r .number ≡ n = plan-is ∙ ap numberOf q in absurd (omega (arith, l, h, z))
+      go : (x : Answer ChosenSheet) → chosenAs (returnedChoice x) .number ≡ numberOf x
+      go (given c) = refl
+      go (refused n) = refl
+
+  few : (n : ℕ) → chooseAnswer t first second ≡ refused n → (1 ≤ n) × (n ≤ 18)
+  few n q = sixteen n (choose-within t first second n q)
+
+  pub choice-small : Machine w32 (r .number)
+  choice-small = number-small (chooseAnswer t first second) few (r .number) choice-is
+
+  pub choice-stopped : (lent : List ℕ) → (r .number ≡ 0 → ⊥)
+      → (r .number ≡ numberOf (chooseAnswer t first second)) × (lent ≡ countsWritten choiceNumbers (chooseAnswer t first second) lent)
+  choice-stopped = stopped choiceNumbers (chooseAnswer t first second) (r .number) choice-is
+
+  pub choice-passed : (lent l₁ l₂ : List ℕ) (m : ℕ) → r .number ≡ 0 → m ≡ ofWhich (r .which) 0 1 → l₁ ≡ laidAt 0 (be16 m) lent → l₂ ≡ laidAt 2 (be16 (r .length)) l₁
+      → (0 ≡ numberOf (chooseAnswer t first second)) × (l₂ ≡ countsWritten choiceNumbers (chooseAnswer t first second) lent)
+  unfolding chosenAs returnedChoice
+  choice-passed lent l₁ l₂ m z k f g =
+      let p = given-by (chooseAnswer t first second) few (r .number) choice-is z in
+      let c = p .0 in
+      let same = e ∙ ap (λ (x : Answer ChosenSheet). chosenAs (returnedChoice x)) (p .1) in
+      let two : l₂ ≡ laidAt 2 (be16 (r .length)) (laidAt 0 (be16 (ofWhich (r .which) 0 1)) lent) = rw (g, f, k) refl in
+      wrote choiceNumbers (chooseAnswer t first second) (r .number) choice-is lent l₂ c (p .1) z
+      (two
+      ∙ ap (λ (v : Chosen). laidAt 2 (be16 (v .length)) (laidAt 0 (be16 (ofWhich (v .which) 0 1)) lent)) same
+      ∙ ap (λ (n : ℕ). laidAt 2 (be16 (c .sheetLength)) (laidAt 0 (be16 n) lent)) (two-chosen (c .which) 0 1)
+      ∙ laid-two (ofTwo (c .which) 0 1) (c .sheetLength) lent)

@@ -1,12 +1,15 @@
--- What joins the calls: the part that `planner::part` gives of the two buffers and the value that `planner::plan` left. Assumes nothing.
+-- What joins the calls: the part that `planner::part` gives of the two buffers and the value that `planner::plan` left, and the sheet that
+-- `planner::chosen_sheet` gives of the two sheets and the value that `planner::choose` gave. Assumes nothing.
 use mathlib.Core.Path.{_≡_, refl, ap, _∙_}
 use mathlib.Core.List.{List, []}
+use mathlib.Core.Option.{Option, none, some}
 use Prim.Native.Nat.{ℕ}
 use Rattle.bits.specs.Reading.{Answer, given, refused}
-use Rattle.model.specs.Calls.{handed, shortAfter, sparingAfter, returned, partOf, partAfter}
+use Rattle.model.specs.Calls.{isFirst, isSecond, ofTwo, handed, shortAfter, sparingAfter, returned, partOf, partAfter, ChosenSheet, chooseAnswer, returnedChoice, sheetHanded, sheetAfter}
+use Rattle.model.specs.Calls.{Which as WhichGiven}
 use Rattle.model.specs.Calls.{Planned as PlanGiven}
-use Rattle.model.proofs.Promises.{part-handed, plan-refused}
-use Rattle.planner.specs.Planner.{plannedAs, planInto}
+use Rattle.model.proofs.Promises.{part-handed, plan-refused, sheet-handed, choose-refused}
+use Rattle.planner.specs.Planner.{plannedAs, planInto, whichAs, whichGiven, chosenAs}
 
 -- by the contracts of both: what `part` gives after a planning call that gave `a`
 abbrev pub partOfCall : Answer PlanGiven → List ℕ → List ℕ → List ℕ
@@ -25,3 +28,27 @@ part-given t short sparing p e = ap (λ (a : Answer PlanGiven). partOfCall a sho
 -- after a refusal it is empty.
 pub part-refused : (t short sparing : List ℕ) (n : ℕ) → planInto t short sparing ≡ refused n → partOfCall (planInto t short sparing) short sparing ≡ []
 part-refused t short sparing n e = ap (λ (a : Answer PlanGiven). partOfCall a short sparing) e ∙ same-part (refused n) short sparing ∙ plan-refused n short sparing .1
+
+-- by the contracts of both: what `chosen_sheet` gives after a choice that gave `a`
+abbrev pub sheetOfCall : Answer ChosenSheet → List ℕ → List ℕ → List ℕ
+sheetOfCall a first second =
+    let r = chosenAs (returnedChoice a) in
+    sheetHanded (whichGiven (r .which)) (r .length) first second
+
+same-which : (w : Option WhichGiven) → whichGiven (whichAs w) ≡ w
+same-which none = refl
+same-which (some isFirst) = refl
+same-which (some isSecond) = refl
+
+same-sheet : (a : Answer ChosenSheet) (first second : List ℕ) → sheetOfCall a first second ≡ sheetAfter a first second
+unfolding chosenAs sheetAfter
+same-sheet a first second = let r = returnedChoice a in ap (λ (w : Option WhichGiven). sheetHanded w (r .sheetLength) first second) (same-which (r .which))
+
+-- After a choice that is not refused it is the sheet handed back, byte for byte;
+pub sheet-given : (t first second : List ℕ) (c : ChosenSheet) → chooseAnswer t first second ≡ given c
+    → sheetOfCall (chooseAnswer t first second) first second ≡ ofTwo (c .which) first second
+sheet-given t first second c e = ap (λ (a : Answer ChosenSheet). sheetOfCall a first second) e ∙ same-sheet (given c) first second ∙ sheet-handed t first second c e
+
+-- after a refusal it is empty.
+pub sheet-refused : (t first second : List ℕ) (n : ℕ) → chooseAnswer t first second ≡ refused n → sheetOfCall (chooseAnswer t first second) first second ≡ []
+sheet-refused t first second n e = ap (λ (a : Answer ChosenSheet). sheetOfCall a first second) e ∙ same-sheet (refused n) first second ∙ choose-refused n first second [] .1

@@ -40,13 +40,18 @@ pub laid-counts : (rounds : ℕ) (fetches : List ℕ) (k n : ℕ) (lent : List �
 unfolding halves
 laid-counts rounds fetches k n lent e = laid-then (k * 2) (n * 2) (be16 rounds) (halves fetches) lent (omega (arith, e))
 
--- two numbers, and then nine and nine
+-- two numbers,
+pub laid-two : (m n : ℕ) (lent : List ℕ) → laidAt 2 (be16 n) (laidAt 0 (be16 m) lent) ≡ laidAt 0 (halves (m ∷ n ∷ [])) lent
+unfolding halves
+laid-two m n lent = laid-then 0 2 (be16 m) (be16 n) lent refl
+
+-- and then nine and nine
 pub laid-twenty : (m n : ℕ) (x y lent : List ℕ) → length x ≡ 9
     → laidAt 22 (halves y) (laidAt 4 (halves x) (laidAt 2 (be16 n) (laidAt 0 (be16 m) lent))) ≡ laidAt 0 (halves (m ∷ n ∷ (x ++ y))) lent
 unfolding halves
 laid-twenty m n x y lent e =
     let l = length-halves x in
-    ap (λ (s : List ℕ). laidAt 22 (halves y) (laidAt 4 (halves x) s)) (laid-then 0 2 (be16 m) (be16 n) lent refl)
+    ap (λ (s : List ℕ). laidAt 22 (halves y) (laidAt 4 (halves x) s)) (laid-two m n lent)
     ∙ ap (laidAt 22 (halves y)) (laid-then 0 4 (be16 m ++ be16 n) (halves x) lent refl)
     ∙ laid-then 0 22 (be16 m ++ be16 n ++ halves x) (halves y) lent (omega (arith, l, e))
     ∙ ap (λ (s : List ℕ). laidAt 0 (be16 m ++ (be16 n ++ s)) lent) (sym (halves-append x y))

@@ -1,5 +1,6 @@
 pub mod Joined
 pub mod Laws
 mod Rooms
+mod TwoSheets
 mod Laying
 mod Exports

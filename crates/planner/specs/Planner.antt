@@ -12,7 +12,8 @@ use Rattle.model.specs.Job.{Job}
 use Rattle.model.specs.Ticket.{ticketOf}
 use Rattle.model.specs.Playing.{Schedule}
 use Rattle.model.specs.Valid.{ValidSheet}
-use Rattle.model.specs.Calls.{countsOf, fetchesOn, shortCounts, sparingCounts, isShort, isSparing, markFor, chosen, handedCounts, Returned, planAnswer, checkAnswer}
+use Rattle.model.specs.Calls.{countsOf, fetchesOn, shortCounts, sparingCounts, isFirst, isSecond, ofTwo, whichFor, isShort, isSparing, markFor, chosen, handedCounts, Returned, planAnswer, checkAnswer, ChosenSheet, ReturnedChoice}
+use Rattle.model.specs.Calls.{Which as WhichGiven}
 use Rattle.model.specs.Calls.{Planned as PlanGiven}
 use Rattle.model.specs.Calls.{Mark as MarkGiven}
 use Rattle.model.specs.Calls.{Counts as CountsGiven}
@@ -23,6 +24,9 @@ use Rattle.planner.specs.declared.Counts.{Counts}
 use Rattle.planner.specs.declared.Planned.{Planned}
 use Rattle.planner.specs.declared.Mark.{Mark}
 use Rattle.planner.specs.declared.Mark.the-variants.{Unmarked, Short, Sparing}
+use Rattle.planner.specs.declared.Which.{Which}
+use Rattle.planner.specs.declared.Which.the-variants.{Neither, First, Second}
+use Rattle.planner.specs.declared.Chosen.{Chosen}
 
 -- "the mark (short or sparing)", and no mark
 abbrev pub markAs : Option MarkGiven → Mark
@@ -35,6 +39,35 @@ abbrev pub markNumber : Mark → ℕ
 markNumber Unmarked = 0
 markNumber Short = 0
 markNumber Sparing = 1
+
+-- which of two sheets is handed back, and neither
+abbrev pub whichAs : Option WhichGiven → Which
+whichAs none = Neither
+whichAs (some isFirst) = First
+whichAs (some isSecond) = Second
+
+abbrev pub whichGiven : Which → Option WhichGiven
+whichGiven Neither = none
+whichGiven First = some isFirst
+whichGiven Second = some isSecond
+
+-- where that sheet begins; the empty slice of neither begins where the first does
+abbrev pub whichBegins : {A : Type 0} → Which → A → A → A
+whichBegins Neither first second = first
+whichBegins First first second = first
+whichBegins Second first second = second
+
+-- planning's first sheet is the short one, its second the sparing one
+abbrev pub markOf : Which → Mark
+markOf Neither = Unmarked
+markOf First = Short
+markOf Second = Sparing
+
+-- of two numbers, the first sheet's and the second's, that of the sheet handed back; 0 of neither, whose length that is
+abbrev pub ofWhich : Which → ℕ → ℕ → ℕ
+ofWhich Neither ofFirst ofSecond = 0
+ofWhich First ofFirst ofSecond = ofFirst
+ofWhich Second ofFirst ofSecond = ofSecond
 
 -- the rounds and the fetches of each disk
 abbrev pub countsAs : CountsGiven → Counts
@@ -49,6 +82,10 @@ plannedAs r = record {
   short = countsAs (r .short);
   sparing = countsAs (r .sparing);
 }
+
+-- What a choice returns.
+unfoldable pub chosenAs : ReturnedChoice → Chosen
+chosenAs r = record { number = r .number; which = whichAs (r .which); length = r .sheetLength }
 
 -- A planning call for a ticket and two lent buffers, of which only the lengths count.
 abbrev pub planInto : List ℕ → List ℕ → List ℕ → Answer PlanGiven
@@ -70,6 +107,10 @@ outcomeOf a m b n = record {
   short = totalCounts a;
   sparing = totalCounts b;
 }
+
+-- What two sheets of m and n bytes that pass in a and b rounds give.
+unfoldable pub preferenceOf : ℕ → ℕ → ℕ → ℕ → Chosen
+preferenceOf a m b n = record { number = 0; which = whichAs (some (whichFor a b)); length = ofTwo (whichFor a b) m n }
 
 -- Demand 2, of what a check returns: it passes a sheet exactly if that is a valid schedule of the ticket, and with that schedule's counts.
 unfoldable pub Exact : List ℕ → List ℕ → Checked → Type 0
@@ -95,3 +136,13 @@ Promised ticket (given p) =
     × ((p .mark ≡ isSparing) ↔ (p .short .rounds ≡ p .sparing .rounds))
     × ((s : List ℕ) (c : CountsGiven) → checkAnswer ticket s ≡ given c → (handedCounts p .rounds ≤ c .rounds) × ((d : ℕ) → fetchesOn (p .sparing) d ≤ fetchesOn c d))
 Promised ticket (refused n) = Unit {0}
+
+-- Request L1, of a choice: the sheet handed back passes the check, and so does the other, which takes no fewer rounds.
+unfoldable pub Preferred : List ℕ → List ℕ → List ℕ → Answer ChosenSheet → Type 0
+unfolding checkAnswer
+Preferred ticket first second (given c) =
+    (a : CountsGiven) × (b : CountsGiven)
+    × (checkAnswer ticket (ofTwo (c .which) first second) ≡ given a)
+    × (checkAnswer ticket (ofTwo (c .which) second first) ≡ given b)
+    × (a .rounds ≤ b .rounds)
+Preferred ticket first second (refused n) = Unit {0}

@@ -1,18 +1,20 @@
-// The public calls: planning, the chooser of the sheet that is run, the check, and both from C. Document 01, its calls.
+// The public calls: planning and the part with the sheet to run, the check, the choice between two sheets and the sheet chosen; and planning, check
+// and choice from C. Document 01, its calls; document 02, L1.
 use checking::Checked;
 use job::Job;
 use planning::Totals;
 ghost use mathlib.Core.Path.{_≡_};
 ghost use mathlib.Core.List.{_∷_};
+ghost use mathlib.Core.Option.{some};
 ghost use Prim.Native.Nat.{_*_, _≤_};
 ghost use lib.ListN.{length, getD, take};
 ghost use Rattle.bits.specs.Fields.{laidAt};
 ghost use Rattle.bits.specs.Reading.{given, refused};
 ghost use Rattle.job.specs.Meaning.{jobOf, Fits};
 ghost use Rattle.model.specs.Plans.{each};
-ghost use Rattle.model.specs.Calls.{markFor, chosen, plannedFor, shortAfter, sparingAfter, returned, partOf, checkAnswer, countsWritten, countsNumbers, planningNumbers, numberOf, halves};
+ghost use Rattle.model.specs.Calls.{whichFor, markFor, chosen, plannedFor, shortAfter, sparingAfter, returned, partOf, checkAnswer, chooseAnswer, returnedChoice, sheetHanded, countsWritten, countsNumbers, planningNumbers, choiceNumbers, numberOf, halves};
 ghost use Rattle.checking.specs.Checking.{checkedOf};
-ghost use Rattle.planner.specs.Planner.{plannedAs, planInto, roomNumber, totalCounts, outcomeOf, Unbeaten, Exact, Promised, markNumber};
+ghost use Rattle.planner.specs.Planner.{plannedAs, planInto, roomNumber, totalCounts, outcomeOf, Unbeaten, Exact, Promised, markNumber, whichAs, whichGiven, whichBegins, markOf, ofWhich, chosenAs, preferenceOf, Preferred};
 
 // The mark of the sheet that is run; `Unmarked` on a refusal.
 pub enum Mark {
@@ -35,6 +37,20 @@ pub struct Planned {
     pub length: usize,
     pub short: Counts,
     pub sparing: Counts,
+}
+
+// Which of two sheets is handed back; `Neither` on a refusal.
+pub enum Which {
+    Neither,
+    First,
+    Second,
+}
+
+// What a choice gives: its number, 0 where it is not refused; which sheet is handed back; and that sheet's length, 0 on a refusal.
+pub struct Chosen {
+    pub number: usize,
+    pub which: Which,
+    pub length: usize,
 }
 
 // A refused planning call.
@@ -65,16 +81,15 @@ fn counted(plan: Totals) -> Counts
     }
 }
 
-// The chooser. "The sparing sheet exactly when both take equally many rounds, otherwise the short one": of two slices, for the short and the sparing
-// plan, by the rounds a and b of these plans.
-fn choose<'a>(a: usize, b: usize, short: &'a [u8], sparing: &'a [u8]) -> &'a [u8]
-    ensures bytes { λ r. ⌜ now r ≡ chosen (markFor a b) (now (short .entry)) (now (sparing .entry)) ⌝ }
-    ensures buffer { λ r. ⌜ r .ptr ≡ chosen (markFor a b) (short .entry .ptr) (sparing .entry .ptr) ⌝ }
+// "The second is handed back if it takes no more rounds than the first, otherwise the first": by the rounds of two sheets. Planning's first is the
+// short sheet, its second the sparing one.
+fn which_for(first: usize, second: usize) -> Which
+    ensures { λ r. ⌜ r ≡ whichAs (some (whichFor first second)) ⌝ }
 {
-    if a == b {
-        return sparing;
+    if second <= first {
+        return Which::Second;
     }
-    short
+    Which::First
 }
 
 // The first n bytes of a slice, or all that it has.
@@ -88,6 +103,18 @@ fn front<'a>(lent: &'a [u8], n: usize) -> &'a [u8]
     lent
 }
 
+// The chosen one of two slices: its first n bytes, or all that it has; of neither no byte.
+fn handed_slice<'a>(which: Which, n: usize, first: &'a [u8], second: &'a [u8]) -> &'a [u8]
+    ensures bytes { λ r. ⌜ now r ≡ sheetHanded (whichGiven which) n (now (first .entry)) (now (second .entry)) ⌝ }
+    ensures buffer { λ r. ⌜ r .ptr ≡ whichBegins which (first .entry .ptr) (second .entry .ptr) ⌝ }
+{
+    match which {
+        Which::Neither => front(first, 0),
+        Which::First => front(first, n),
+        Which::Second => front(second, n),
+    }
+}
+
 // "The part of one of the two lent buffers that holds the chosen sheet": of the buffers of a planning call and what that call gave. After a refusal
 // it is empty; of other buffers it is as many bytes as there are, at most the part's length.
 pub fn part<'a>(short: &'a [u8], sparing: &'a [u8], planned: Planned) -> &'a [u8]
@@ -96,7 +123,8 @@ pub fn part<'a>(short: &'a [u8], sparing: &'a [u8], planned: Planned) -> &'a [u8
 {
     let a = planned.short;
     let b = planned.sparing;
-    front(choose(a.rounds, b.rounds, short, sparing), planned.length)
+    let which = which_for(a.rounds, b.rounds);
+    handed_slice(which, planned.length, short, sparing)
 }
 
 // The number of two sheets of m and n bytes for two buffers: 17, 18, or 0 where both fit.
@@ -112,23 +140,37 @@ fn room_number(m: usize, short: usize, n: usize, sparing: usize) -> usize
     0
 }
 
-// What two plans with sheets of m and n bytes give, with the mark of the sheet that the chooser takes.
+// The mark of the plan whose sheet is handed back.
+fn mark_of(which: Which) -> Mark
+    ensures { λ r. ⌜ r ≡ markOf which ⌝ }
+{
+    match which {
+        Which::Neither => Mark::Unmarked,
+        Which::First => Mark::Short,
+        Which::Second => Mark::Sparing,
+    }
+}
+
+// Of two numbers, the first sheet's and the second's, that of the sheet handed back; 0 of neither.
+fn of_which(which: Which, first: usize, second: usize) -> usize
+    ensures { λ r. ⌜ r ≡ ofWhich which first second ⌝ }
+{
+    match which {
+        Which::Neither => 0,
+        Which::First => first,
+        Which::Second => second,
+    }
+}
+
+// What two plans with sheets of m and n bytes give.
 fn outcome(short: Totals, m: usize, sparing: Totals, n: usize) -> Planned
     ensures { λ r. ⌜ r ≡ outcomeOf short m sparing n ⌝ }
 {
-    if short.rounds == sparing.rounds {
-        return Planned {
-            number: 0,
-            mark: Mark::Sparing,
-            length: n,
-            short: counted(short),
-            sparing: counted(sparing),
-        };
-    }
+    let which = which_for(short.rounds, sparing.rounds);
     Planned {
         number: 0,
-        mark: Mark::Short,
-        length: m,
+        mark: mark_of(which),
+        length: of_which(which, m, n),
         short: counted(short),
         sparing: counted(sparing),
     }
@@ -189,6 +231,61 @@ pub fn check(ticket: &[u8], sheet: &[u8]) -> Checked
         };
     }
     checking::check(read.job, sheet)
+}
+
+// A refused choice.
+fn no_choice(number: usize) -> Chosen
+    ensures { λ r. ⌜ r ≡ chosenAs (returnedChoice (refused number)) ⌝ }
+{
+    Chosen {
+        number,
+        which: Which::Neither,
+        length: 0,
+    }
+}
+
+// What two sheets of m and n bytes that pass in a and b rounds give.
+fn preference(a: usize, m: usize, b: usize, n: usize) -> Chosen
+    ensures { λ r. ⌜ r ≡ preferenceOf a m b n ⌝ }
+{
+    let which = which_for(a, b);
+    Chosen {
+        number: 0,
+        which,
+        length: of_which(which, m, n),
+    }
+}
+
+// The choice between two sheets for a ticket, whoever drew them up: "both are checked, the first before the second, and a failure gives the check's
+// number". What it returns, and what is promised. `chosen_sheet` hands back the sheet.
+pub fn choose(ticket: &[u8], first: &[u8], second: &[u8]) -> Chosen
+    ensures { λ r. ⌜ (let a = chooseAnswer (now (ticket .entry)) (now (first .entry)) (now (second .entry)) in
+        (r ≡ chosenAs (returnedChoice a))
+        × Preferred (now (ticket .entry)) (now (first .entry)) (now (second .entry)) a) ⌝ }
+{
+    let read = ticket::read(ticket);
+    if read.number != 0 {
+        return no_choice(read.number);
+    }
+    let a = checking::check(read.job, first);
+    if a.number != 0 {
+        return no_choice(a.number);
+    }
+    let b = checking::check(read.job, second);
+    if b.number != 0 {
+        return no_choice(b.number);
+    }
+    preference(a.rounds, first.len(), b.rounds, second.len())
+}
+
+// The sheet that a choice hands back: of the two sheets and what the choice gave. After a refusal it is empty; of other slices it is as many bytes as
+// there are, at most the sheet's length.
+pub fn chosen_sheet<'a>(first: &'a [u8], second: &'a [u8], chosen: Chosen) -> &'a [u8]
+    ensures bytes { λ r. ⌜ now r ≡ sheetHanded (whichGiven (chosen .which)) (chosen .length) (now (first .entry)) (now (second .entry)) ⌝ }
+    ensures buffer { λ r. ⌜ r .ptr ≡ whichBegins (chosen .which) (first .entry .ptr) (second .entry .ptr) ⌝ }
+{
+    let which = chosen.which;
+    handed_slice(which, chosen.length, first, second)
 }
 
 // The mark as a number.
@@ -262,5 +359,28 @@ pub extern "C" fn planner_plan(
     bits::lay16(counts, 1, p.length);
     lay_counts(counts, 2, a.rounds, f);
     lay_counts(counts, 11, b.rounds, g);
+    0
+}
+
+// The choice, from C: its number; in `counts`, as far as that reaches, which sheet is handed back (0 the first, 1 the second) and its length.
+#[no_mangle]
+pub extern "C" fn planner_choose(
+    ticket: &[u8],
+    first: &[u8],
+    second: &[u8],
+    counts: &mut [u8],
+) -> u32
+    ensures { λ r. ⌜ (let a = chooseAnswer (now (ticket .entry)) (now (first .entry)) (now (second .entry)) in
+        (r ≡ numberOf a)
+        × (now (counts .exit) ≡ countsWritten choiceNumbers a (now (counts .entry)))
+        × Preferred (now (ticket .entry)) (now (first .entry)) (now (second .entry)) a) ⌝ }
+{
+    let c = choose(ticket, first, second);
+    if c.number != 0 {
+        return c.number as u32;
+    }
+    let which = c.which;
+    bits::lay16(counts, 0, of_which(which, 0, 1));
+    bits::lay16(counts, 1, c.length);
     0
 }

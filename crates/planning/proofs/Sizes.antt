@@ -16,7 +16,7 @@ use Rattle.playing.specs.Playing.{fetchInto, replaceIn, discardFrom, consumeOne
 use Rattle.playing.specs.declared.Buffers.{Buffers}
 use Rattle.choosing.specs.declared.Choice.{Choice}
 use Rattle.choosing.specs.declared.Choice.the-variants.{IntoEmpty, OverMinBlock, MinBlockSooner, Waits, NoneMissing}
-use Rattle.choosing.proofs.Chosen.{Placed, choose-placed}
+use Rattle.choosing.proofs.Chosen.{Placed, choice-placed}
 use Rattle.acting.specs.Acting.{Small, reasonOf, column, noted, takenIn}
 use Rattle.acting.proofs.AfterChoice.{rows-after, column-fetched, column-discarded, column-rows}
 use Rattle.planning.specs.Driving.{PlanInput, PlanState, choiceAt, afterTurn, readNext}
@@ -69,7 +69,7 @@ module _ (k : PlanInput) (sized : Sized k) where
     pub chosen-placed : (c : Choice) → c ≡ choiceAt k d p → Placed (k .refs) look (d * 64) count (getD (k .slots) d 0) c
     chosen-placed c e =
         subst (Placed (k .refs) look (d * 64) count (getD (k .slots) d 0)) (sym e)
-        (choose-placed (k .refs) (k .rule) d count (getD (k .slots) d 0) (p .desk) (sized .someSlot d l))
+        (choice-placed (k .refs) (k .rule) d count (getD (k .slots) d 0) (p .desk) (sized .someSlot d l))
 
     u-small : (u : ℕ) → look < length (k .refs) → u ≡ getD (k .refs) look 0 → u < 512
     u-small u more e = let b = sized .smallRefs look more in omega (arith, b, e)

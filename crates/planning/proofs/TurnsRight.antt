@@ -32,7 +32,7 @@ use Rattle.choosing.proofs.Right.{Listed, Pointer, DiskRight, Right, Forward}
 use Rattle.choosing.proofs.DiskStaysRight.{SameOn, disk-same, disk-elsewhere, load-same, pointed, pointer-into}
 use Rattle.choosing.proofs.DiskStaysRight.{pointer-over, listed-into, listed-over, places-elsewhere}
 use Rattle.choosing.proofs.PointerRight.{Moved, forward-ahead}
-use Rattle.choosing.proofs.Chosen.{Chooses, choose-is, choose-placed, Placed}
+use Rattle.choosing.proofs.Chosen.{Chooses, choice-is, choice-placed, Placed}
 use Rattle.acting.specs.Acting.{reasonOf, noted, takenIn, column}
 use Rattle.acting.proofs.AfterChoice.{rows-after, column-fetched, column-discarded, column-rows}
 use Rattle.writing.specs.Writing.{actionOf, actionIn}
@@ -331,10 +331,10 @@ module _ (rule : Rule) (j : Job) (sound : Sound j) {steps : List (List ℕ)} (fo
       placed : Placed (j .refs) (getD (looks (p .desk)) d 0) (d * 64) (getD (p .buffers .held) d 0) (slotsOf j d) c
       placed =
           subst (Placed (j .refs) (getD (looks (p .desk)) d 0) (d * 64) (getD (p .buffers .held) d 0) (slotsOf j d)) (sym e)
-          (choose-placed (j .refs) rule d (getD (p .buffers .held) d 0) (slotsOf j d) (p .desk) (sound .someSlot d l))
+          (choice-placed (j .refs) rule d (getD (p .buffers .held) d 0) (slotsOf j d) (p .desk) (sound .someSlot d l))
 
       rule-is : meaning (helds (p .desk)) c ≡ r j s d
-      rule-is = ap (meaning (helds (p .desk))) e ∙ choose-is chooses rule
+      rule-is = ap (meaning (helds (p .desk))) e ∙ choice-is chooses rule
 
     -- U is found where the desk's pointer stands, so the min-block is referenced no sooner
     far-enough : (u place : ℕ) → OverMinBlock u place ≡ choiceAt k d p

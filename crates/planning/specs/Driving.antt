@@ -9,7 +9,7 @@ use Rattle.model.specs.Playing.{Schedule}
 use Rattle.lookup.specs.Desk.{NEXT, HELD, cell, withCell, ofBlock}
 use Rattle.playing.specs.Playing.{fetchInto, replaceIn, consumeOne}
 use Rattle.playing.specs.declared.Buffers.{Buffers}
-use Rattle.choosing.specs.Choosing.{chooseFrom}
+use Rattle.choosing.specs.Choosing.{choiceFrom}
 use Rattle.choosing.specs.declared.Rule.{Rule}
 use Rattle.choosing.specs.declared.Choice.{Choice}
 use Rattle.choosing.specs.declared.Choice.the-variants.{IntoEmpty, OverMinBlock, MinBlockSooner, Waits, NoneMissing}
@@ -35,7 +35,7 @@ noActs = replicate 3 (replicate 8 512)
 
 -- What the rule chooses for disk d,
 abbrev pub choiceAt : PlanInput → ℕ → PlanState → Choice
-choiceAt k d p = chooseFrom (k .refs) (k .rule) d (getD (p .buffers .held) d 0) (getD (k .slots) d 0) (p .desk)
+choiceAt k d p = choiceFrom (k .refs) (k .rule) d (getD (p .buffers .held) d 0) (getD (k .slots) d 0) (p .desk)
 
 -- the buffers after that choice,
 abbrev pub buffersAfter : ℕ → List (List ℕ) → Buffers → Choice → Buffers

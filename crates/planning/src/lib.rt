@@ -63,7 +63,14 @@ fn drive(
         }
         let mut d = 0;
         'disks: while d < disks {
-            let c = choosing::choose(d, b.held[d] as usize, slots[d] as usize, refs, rule, desk);
+            let c = choosing::rule_choice(
+                d,
+                b.held[d] as usize,
+                slots[d] as usize,
+                refs,
+                rule,
+                desk,
+            );
             acting::note(d, c, desk, &mut acts);
             match c {
                 Choice::IntoEmpty(u, place) => {

@@ -1,14 +1,25 @@
 -- `planner::outcome` meets its contract. Assumes nothing.
 use mathlib.Core.Path.{refl}
-use borrow.Author.Tests.{eq-eqb, ne-eqb}
-use Rattle.model.specs.Calls.{markFor}
 use Rattle.planner.specs.Planner.{outcomeOf}
+use Rattle.planner.proofs.TwoSheets.{mark-chosen, two-marked}
 use borrow.Author.Needs.{needs}
 use Rattle.planner.proofs.outcome.Statement.{statement}
 use Rattle.planner.proofs.outcome.Tie as tie
 use Rattle.planner.proofs.outcome.Reads as reads
 use Rattle.planner.proofs.outcome.Lts as lts
 use Rattle.planner.proofs.counted.Reads as counted-reads
+use Rattle.planner.proofs.of_which.Reads as of-which-reads
+use Rattle.planner.proofs.mark_of.Reads as mark-of-reads
+use Rattle.planner.proofs.which_for.Reads as which-for-reads
+
+which-for-requires : tie.Need-which-for-requires
+which-for-requires c κs = search needs
+
+mark-of-requires : tie.Need-mark-of-requires
+mark-of-requires c κs = search needs
+
+of-which-requires : tie.Need-of-which-requires
+of-which-requires c κs = search needs
 
 counted-requires : tie.Need-counted-requires
 counted-requires c κs = search needs
@@ -17,26 +28,19 @@ counted-requires-2 : tie.Need-counted-requires-2
 counted-requires-2 c κs = search needs
 
 returns : tie.Need-returns
-unfolding outcomeOf markFor
-returns c = rw (eq-eqb _ _ (c .before .before .if1 .taken), c .before .counted .ensures, c .counted2 .ensures) refl
-
-counted-requires-3 : tie.Need-counted-requires-3
-counted-requires-3 c κs = search needs
-
-counted-requires-4 : tie.Need-counted-requires-4
-counted-requires-4 c κs = search needs
-
-returns-2 : tie.Need-returns-2
-unfolding outcomeOf markFor
-returns-2 c = rw (ne-eqb _ _ (c .before .before .if1 .left), c .before .counted3 .ensures, c .counted4 .ensures) refl
+unfolding outcomeOf
+returns c =
+    let k = c .before .before in
+    let w = k .before .before .which-for .ensures in
+    rw (k .before .mark-of .ensures, k .of-which .ensures, w, mark-chosen _ _, two-marked _ _ _ _, c .before .counted .ensures, c .counted2 .ensures) refl
 
 pub outcome-spec : {M : Type 1} → statement M
 outcome-spec =
     tie.close
     (tie.spec
+    which-for-requires
+    mark-of-requires
+    of-which-requires
     counted-requires
     counted-requires-2
-    returns
-    counted-requires-3
-    counted-requires-4
-    returns-2)
+    returns)

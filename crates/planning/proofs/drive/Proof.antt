@@ -66,7 +66,7 @@ abbrev Turn : Type 0
 Turn = tie.In-disks Inv-disks μ-disks Inv-references μ-references Inv-rounds μ-rounds
 
 abbrev Chosen : Type 0
-Chosen = tie.After-choose Inv-disks μ-disks Inv-references μ-references Inv-rounds μ-rounds
+Chosen = tie.After-rule-choice Inv-disks μ-disks Inv-references μ-references Inv-rounds μ-rounds
 
 abbrev IntoSlot : Type 0
 IntoSlot = tie.After-known-told Inv-disks μ-disks Inv-references μ-references Inv-rounds μ-rounds
@@ -149,45 +149,45 @@ here t = t .disks-test .taken
 small : (t : Turn) → t .before .disks .d < 8
 small t = let l = here t in let few = known t .sized .fewDisks in omega (arith, l, few)
 
-element-copy-out-choose : tie.Need-element-copy-out-choose Inv-disks μ-disks Inv-references μ-references Inv-rounds μ-rounds
-element-copy-out-choose c = small c
+element-copy-out-rule-choice : tie.Need-element-copy-out-rule-choice Inv-disks μ-disks Inv-references μ-references Inv-rounds μ-rounds
+element-copy-out-rule-choice c = small c
 
-cast-choose : tie.Need-cast-choose Inv-disks μ-disks Inv-references μ-references Inv-rounds μ-rounds
-cast-choose c =
+cast-rule-choice : tie.Need-cast-rule-choice Inv-disks μ-disks Inv-references μ-references Inv-rounds μ-rounds
+cast-rule-choice c =
     let held = known (c .before) .kept .held _ (here (c .before)) in
     let few = known (c .before) .sized .fewSlots _ (here (c .before)) in
     omega (arith, held, few)
 
-mul-choose : tie.Need-mul-choose Inv-disks μ-disks Inv-references μ-references Inv-rounds μ-rounds
-mul-choose c = let s = small (c .before) in omega (arith, s)
+mul-rule-choice : tie.Need-mul-rule-choice Inv-disks μ-disks Inv-references μ-references Inv-rounds μ-rounds
+mul-rule-choice c = let s = small (c .before) in omega (arith, s)
 
-shared-slice-read-choose : tie.Need-shared-slice-read-choose Inv-disks μ-disks Inv-references μ-references Inv-rounds μ-rounds
-shared-slice-read-choose c = here (c .before .before)
+shared-slice-read-rule-choice : tie.Need-shared-slice-read-rule-choice Inv-disks μ-disks Inv-references μ-references Inv-rounds μ-rounds
+shared-slice-read-rule-choice c = here (c .before .before)
 
-cast-choose-2 : tie.Need-cast-choose-2 Inv-disks μ-disks Inv-references μ-references Inv-rounds μ-rounds
-cast-choose-2 c = let few = known (c .before .before) .sized .fewSlots _ (here (c .before .before)) in omega (arith, few)
+cast-rule-choice-2 : tie.Need-cast-rule-choice-2 Inv-disks μ-disks Inv-references μ-references Inv-rounds μ-rounds
+cast-rule-choice-2 c = let few = known (c .before .before) .sized .fewSlots _ (here (c .before .before)) in omega (arith, few)
 
-choose-requires : tie.Need-choose-requires Inv-disks μ-disks Inv-references μ-references Inv-rounds μ-rounds
-choose-requires c κs =
+rule-choice-requires : tie.Need-rule-choice-requires Inv-disks μ-disks Inv-references μ-references Inv-rounds μ-rounds
+rule-choice-requires c κs =
     let t = c .before .before .before in
     let h = known t in
     let l = here t in
     ((small t, h .kept .held _ l, h .sized .someSlot _ l, h .sized .fewSlots _ l), (h .sized .smallRefs, h .kept .smallHelds, h .kept .smallNexts))
 
 -- What is chosen is a block and a place of the 512, and stands where the desk says.
-chosen : (k : Chosen) → Small (k .choose .result)
-chosen k = let t = turn k in chosen-small (input (round t)) (known t .sized) (state t) (known t .kept) _ (here t) _ (k .choose .ensures)
+chosen : (k : Chosen) → Small (k .rule-choice .result)
+chosen k = let t = turn k in chosen-small (input (round t)) (known t .sized) (state t) (known t .kept) _ (here t) _ (k .rule-choice .ensures)
 
 abbrev count : Turn → ℕ
 count t = getD (t .before .disks .b .held) (t .before .disks .d) 0
 
-placed : (k : Chosen) (x : Choice) → k .choose .result ≡ x
+placed : (k : Chosen) (x : Choice) → k .rule-choice .result ≡ x
     → let t = turn k in let w = input (round t) in let d = t .before .disks .d in
     Placed (w .refs) (getD (looks (t .before .disks .desk)) d 0) (d * 64) (count t) (getD (w .slots) d 0) x
 placed k x e =
     let t = turn k in
-    subst (Placed _ _ _ _ _) e (chosen-placed (input (round t)) (known t .sized) (state t) (known t .kept) _ (here t) (k .choose .result)
-    (k .choose .ensures))
+    subst (Placed _ _ _ _ _) e (chosen-placed (input (round t)) (known t .sized) (state t) (known t .kept) _ (here t) (k .rule-choice .result)
+    (k .rule-choice .ensures))
 
 -- U has an empty slot to go to, or a resident to replace.
 into-room : (c : IntoSlot) → count (turn (into c)) < 64
@@ -282,15 +282,15 @@ disks-again c =
     let t = turn k in
     let l = t .before .disks in
     let noted = c .before .note .ensures in
-    turn-next (known t) (here t) (k .choose .ensures)
+    turn-next (known t) (here t) (k .rule-choice .ensures)
     (⊎-elim
-    (λ w. turn-into (input (round t)) (l .d) (l .b) (l .desk) (l .acts) (k .choose .result) noted _ _ (w .1 .given .1)
+    (λ w. turn-into (input (round t)) (l .d) (l .b) (l .desk) (l .acts) (k .rule-choice .result) noted _ _ (w .1 .given .1)
     (w .3 .ensures) (w .9) (w .8 ∙ w .7 .ensures))
     (⊎-elim
-    (λ w. turn-over (input (round t)) (l .d) (l .b) (l .desk) (l .acts) (k .choose .result) noted _ _ (w .1 .given .1)
+    (λ w. turn-over (input (round t)) (l .d) (l .b) (l .desk) (l .acts) (k .rule-choice .result) noted _ _ (w .1 .given .1)
     (w .4 .ensures) (w .5 .ensures) (w .11) (w .10 ∙ w .9 .ensures))
-    (λ w. turn-idle (input (round t)) (l .d) (l .b) (l .desk) (l .acts) (k .choose .result) noted
-    (idle-of (k .choose .result) (w .0 .keys3)) (w .2) (w .1)))
+    (λ w. turn-idle (input (round t)) (l .d) (l .b) (l .desk) (l .acts) (k .rule-choice .result) noted
+    (idle-of (k .rule-choice .result) (w .0 .keys3)) (w .2) (w .1)))
     (c .match .came))
 
 put-round-requires : tie.Need-put-round-requires Inv-disks μ-disks Inv-references μ-references Inv-rounds μ-rounds
@@ -440,12 +440,12 @@ drive-spec =
     μ-rounds
     rounds-holds
     disks-holds
-    element-copy-out-choose
-    cast-choose
-    mul-choose
-    shared-slice-read-choose
-    cast-choose-2
-    choose-requires
+    element-copy-out-rule-choice
+    cast-rule-choice
+    mul-rule-choice
+    shared-slice-read-rule-choice
+    cast-rule-choice-2
+    rule-choice-requires
     note-requires
     enum-known-c
     fetch-requires

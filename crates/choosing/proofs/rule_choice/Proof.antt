@@ -1,4 +1,4 @@
--- `choose`: each return is the case of `chooseFrom` that its tests lead to. Assumes nothing.
+-- `rule_choice`: each return is the case of `choiceFrom` that its tests lead to. Assumes nothing.
 use mathlib.Core.Path.{_≡_, sym, ap, _∙_}
 use mathlib.Core.Bool.{Bool, true, false}
 use mathlib.Core.List.{List}
@@ -13,39 +13,39 @@ use Rattle.lookup.specs.Desk.{nexts, laters, helds, looks}
 use Rattle.lookup.proofs.Laws.{below-any}
 use Rattle.choosing.specs.declared.Choice.the-variants.{IntoEmpty, OverMinBlock, MinBlockSooner, Waits, NoneMissing}
 use Rattle.choosing.specs.declared.Rule.{Rule}
-use Rattle.choosing.specs.Choosing.{lastPlace, someBeyond, alsoIdle, chooseFull, chooseFrom}
+use Rattle.choosing.specs.Choosing.{lastPlace, someBeyond, alsoIdle, choiceFull, choiceFrom}
 use Rattle.choosing.proofs.Scanning.{last-within}
-use Rattle.choosing.proofs.choose.Statement.{statement}
-use Rattle.choosing.proofs.choose.Tie as tie
+use Rattle.choosing.proofs.rule_choice.Statement.{statement}
+use Rattle.choosing.proofs.rule_choice.Tie as tie
 
 -- the cases, where the pointer of the disk stands at `look`
 module _ (refs : List ℕ) (rule : Rule) (d count slots : ℕ) (desk : List (List ℕ)) (look : ℕ) (at : look ≡ getD (looks desk) d 0) where
-  none : length refs ≤ look → NoneMissing ≡ chooseFrom refs rule d count slots desk
-  unfolding chooseFrom
+  none : length refs ≤ look → NoneMissing ≡ choiceFrom refs rule d count slots desk
+  unfolding choiceFrom
   none past = rw (← at, le-leb (length refs) look past)
 
-  into : look < length refs → count < slots → IntoEmpty (getD refs look 0) (d * 64 + count) ≡ chooseFrom refs rule d count slots desk
-  unfolding chooseFrom
+  into : look < length refs → count < slots → IntoEmpty (getD refs look 0) (d * 64 + count) ≡ choiceFrom refs rule d count slots desk
+  unfolding choiceFrom
   into more room = rw (← at, lt-leb (length refs) look more, lt-ltb count slots room)
 
   full : look < length refs → slots ≤ count → (place : ℕ) → place ≡ lastPlace (helds desk) (nexts desk) (d * 64) (count - 1)
-      → chooseFrom refs rule d count slots desk ≡ chooseFull rule desk look (getD refs look 0) (d * 64) count place
-  unfolding chooseFrom
+      → choiceFrom refs rule d count slots desk ≡ choiceFull rule desk look (getD refs look 0) (d * 64) count place
+  unfolding choiceFrom
   full more taken place last = rw (← at, lt-leb (length refs) look more, le-ltb count slots taken, last)
 
 -- with full slots, where the min-block stands at `place` and has the distance `far`
 module _ (rule : Rule) (desk : List (List ℕ)) (look u base count place far : ℕ) (at : far ≡ getD (nexts desk) (getD (helds desk) place 0) 0) where
-  sooner : far < look → chooseFull rule desk look u base count place ≡ MinBlockSooner
-  unfolding chooseFull
+  sooner : far < look → choiceFull rule desk look u base count place ≡ MinBlockSooner
+  unfolding choiceFull
   sooner less = rw (← at, lt-ltb far look less)
 
   module _ (more : look ≤ far) (waits : Bool) (is : waits ≡ alsoIdle rule (someBeyond (helds desk) (laters desk) far base count)) where
-    idle : waits ≡ true → chooseFull rule desk look u base count place ≡ Waits
-    unfolding chooseFull
+    idle : waits ≡ true → choiceFull rule desk look u base count place ≡ Waits
+    unfolding choiceFull
     idle so = rw (← at, le-ltb far look more, ← is, so)
 
-    over : waits ≡ false → chooseFull rule desk look u base count place ≡ OverMinBlock u place
-    unfolding chooseFull
+    over : waits ≡ false → choiceFull rule desk look u base count place ≡ OverMinBlock u place
+    unfolding choiceFull
     over so = rw (← at, le-ltb far look more, ← is, so)
 
 -- the way back from the call of `last` to the start; the place that it found, the distance there, and the case that this is
@@ -66,8 +66,8 @@ far-is c = c .at3 .ensures ∙ ap (λ (b : ℕ). getD (nexts (now (start (c .bef
 full-slots : (c : tie.After-last)
     → let a = start c .args in
     let look = c .before .before .before .before .at .result in
-    chooseFrom (now (a .refs)) (a .rule) (a .d) (a .count) (a .slots) (now (a .desk))
-    ≡ chooseFull (a .rule) (now (a .desk)) look (getD (now (a .refs)) look 0) (a .d * 64) (a .count) (c .last .result)
+    choiceFrom (now (a .refs)) (a .rule) (a .d) (a .count) (a .slots) (now (a .desk))
+    ≡ choiceFull (a .rule) (now (a .desk)) look (getD (now (a .refs)) look 0) (a .d * 64) (a .count) (c .last .result)
 full-slots c =
     let at = c .before .before .before .before .at in
     full _ _ _ _ _ _ (at .result) (at .ensures) (c .before .before .before .if1 .left) (c .before .if2 .left) (c .last .result) (c .last .ensures)
@@ -129,8 +129,8 @@ returns-5 c =
     sym (full-slots (found .before .before)
     ∙ over _ _ _ _ _ _ _ (found .at3 .result) (far-is found) (c .before .before .if3 .left) _ (c .before .waits .ensures) (c .if4 .left))
 
-pub choose-spec : {M : Type 1} → statement M
-choose-spec =
+pub rule-choice-spec : {M : Type 1} → statement M
+rule-choice-spec =
     tie.close
     (tie.spec
     at-requires

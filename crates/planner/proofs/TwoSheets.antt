@@ -1,0 +1,112 @@
+-- What the choice gives, from what the checks of its two sheets give; and planning's mark and part by the same choice. Assumes nothing.
+use mathlib.Core.Path.{_≡_, refl, sym, ap, _∙_, subst}
+use mathlib.Core.List.{List}
+use mathlib.Core.Option.{some}
+use Prim.Native.Nat.{ℕ, _≤_}
+use native.Mathlib.Omega.{arith}
+use lib.ListN.{length, take}
+use Rattle.bits.specs.Reading.{Answer, given, refused}
+use Rattle.model.specs.Ticket.{ticketOf}
+use Rattle.model.specs.Calls.{Counts, Which, isFirst, isSecond, ofTwo, whichFor, isShort, isSparing, markFor, chosen, partOf, checkAnswer, checkFor, ChosenSheet, chosenOf, chooseAnswer, returnedChoice, sheetHanded}
+use Rattle.model.proofs.Bytes.{chosen-two}
+use Rattle.model.proofs.TwoSheets.{chosen-given, both-pass, first-refused, second-refused, length-two}
+use Rattle.model.proofs.Promises.{chosen-passes}
+use Rattle.checking.specs.Checking.{checkedOf}
+use Rattle.checking.specs.declared.Checked.{Checked}
+use Rattle.planner.specs.Planner.{markAs, whichAs, whichGiven, whichBegins, markOf, ofWhich, chosenAs, preferenceOf, Preferred}
+use Rattle.planner.specs.declared.Chosen.{Chosen}
+use Rattle.planner.specs.declared.Which.{Which as WhichOf}
+use Rattle.planner.proofs.Laws.{refused-by, check-is, check-passing}
+
+-- The mark, a number and the part, by which sheet is handed back.
+
+pub mark-chosen : (a b : ℕ) → markOf (whichAs (some (whichFor a b))) ≡ markAs (some (markFor a b))
+unfolding markFor
+mark-chosen a b = go (whichFor a b)
+  where
+    go : (w : Which) → markOf (whichAs (some w)) ≡ markAs (some (ofTwo w isShort isSparing))
+    go isFirst = refl
+    go isSecond = refl
+
+pub two-chosen : (w : Which) (m n : ℕ) → ofWhich (whichAs (some w)) m n ≡ ofTwo w m n
+two-chosen isFirst m n = refl
+two-chosen isSecond m n = refl
+
+pub two-marked : (a b m n : ℕ) → ofWhich (whichAs (some (whichFor a b))) m n ≡ chosen (markFor a b) m n
+unfolding markFor
+two-marked a b m n = two-chosen (whichFor a b) m n ∙ sym (chosen-two (whichFor a b) m n)
+
+pub part-chosen : {A : Type 0} (n a b : ℕ) (x y r : List ℕ) (p q s : A) (w : WhichOf) → w ≡ whichAs (some (whichFor a b))
+    → r ≡ sheetHanded (whichGiven w) n x y → s ≡ whichBegins w p q → (r ≡ partOf n a b x y) × (s ≡ chosen (markFor a b) p q)
+unfolding partOf markFor sheetHanded
+part-chosen n a b x y r p q s w e h k = go (whichFor a b) (subst (λ (v : WhichOf). (r ≡ sheetHanded (whichGiven v) n x y) × (s ≡ whichBegins v p q)) e (h, k))
+  where
+    go : (v : Which) → (r ≡ sheetHanded (whichGiven (whichAs (some v))) n x y) × (s ≡ whichBegins (whichAs (some v)) p q)
+        → (r ≡ take n (chosen (ofTwo v isShort isSparing) x y)) × (s ≡ chosen (ofTwo v isShort isSparing) p q)
+    go isFirst k = k
+    go isSecond k = k
+
+-- the other sheet takes no fewer rounds than the one handed back
+no-fewer : (a b : Counts) (w : Which) → ofTwo w a b .rounds ≤ a .rounds → ofTwo w a b .rounds ≤ b .rounds → ofTwo w a b .rounds ≤ ofTwo w b a .rounds
+no-fewer a b isFirst p q = q
+no-fewer a b isSecond p q = p
+
+other-passes : (t first second : List ℕ) (a b : Counts) (w : Which) → checkAnswer t first ≡ given a → checkAnswer t second ≡ given b
+    → checkAnswer t (ofTwo w second first) ≡ given (ofTwo w b a)
+other-passes t first second a b isFirst p q = q
+other-passes t first second a b isSecond p q = p
+
+module _ (t first second : List ℕ) where
+  preferred : Preferred t first second (chooseAnswer t first second)
+  unfolding Preferred
+  preferred = go (chooseAnswer t first second) refl
+    where
+      go : (x : Answer ChosenSheet) → chooseAnswer t first second ≡ x → Preferred t first second x
+      go (refused n) e = tt
+      go (given c) e =
+          let g = chosen-given t first second c e in
+          let a = g .0 in
+          let b = g .1 in
+          let h = chosen-passes t first second a b c (g .2) (g .3) e in
+          let l = no-fewer a b (c .which) (h .3) (h .4) in
+          (ofTwo (c .which) a b, ofTwo (c .which) b a, h .1, other-passes t first second a b (c .which) (g .2) (g .3), omega (arith, l))
+
+  -- What is said of a choice.
+  abbrev pub Chooses : Chosen → Type 0
+  Chooses r = (r ≡ chosenAs (returnedChoice (chooseAnswer t first second))) × Preferred t first second (chooseAnswer t first second)
+
+  -- it is refused where the ticket is,
+  stops : (r : Chosen) (n : ℕ) → chooseAnswer t first second ≡ refused n → r ≡ chosenAs (returnedChoice (refused n)) → Chooses r
+  stops r n e q = (q ∙ ap (λ (x : Answer ChosenSheet). chosenAs (returnedChoice x)) (sym e), preferred)
+
+  pub ticket-stops : (r : Chosen) (n : ℕ) → ticketOf t ≡ refused n → r ≡ chosenAs (returnedChoice (refused n)) → Chooses r
+  unfolding checkAnswer checkFor
+  ticket-stops r n e = stops r n (first-refused t first second n (ap (checkFor first) e))
+
+  module _ (a : Checked) (is-first : a ≡ checkedOf (checkAnswer t first)) where
+    -- where the check of the first sheet is,
+    pub first-stops : (r : Chosen) → (a .number ≡ 0 → ⊥) → r ≡ chosenAs (returnedChoice (refused (a .number))) → Chooses r
+    first-stops r f = stops r (a .number) (first-refused t first second (a .number) (refused-by (checkAnswer t first) (a .number) (check-is t first a is-first) f))
+
+    module _ (z : a .number ≡ 0) (b : Checked) (is-second : b ≡ checkedOf (checkAnswer t second)) where
+      -- and, where that passes, where the check of the second is;
+      pub second-stops : (r : Chosen) → (b .number ≡ 0 → ⊥) → r ≡ chosenAs (returnedChoice (refused (b .number))) → Chooses r
+      second-stops r f =
+          let p = check-passing t first a is-first z in
+          stops r (b .number) (second-refused t first second (p .0) (b .number) (p .1) (refused-by (checkAnswer t second) (b .number) (check-is t second b is-second) f))
+
+      -- where both pass, their rounds decide.
+      pub both-chosen : (r : Chosen) → b .number ≡ 0 → r ≡ preferenceOf (a .rounds) (length first) (b .rounds) (length second) → Chooses r
+      unfolding preferenceOf chosenAs returnedChoice chosenOf checkedOf
+      both-chosen r y q =
+          let p = check-passing t first a is-first z in
+          let s = check-passing t second b is-second y in
+          let chose = both-pass t first second (p .0) (s .0) (p .1) (s .1) in
+          let m : a .rounds ≡ p .0 .rounds = ap (λ (x : Checked). x .rounds) (is-first ∙ ap checkedOf (p .1)) in
+          let n : b .rounds ≡ s .0 .rounds = ap (λ (x : Checked). x .rounds) (is-second ∙ ap checkedOf (s .1)) in
+          let w = whichFor (p .0 .rounds) (s .0 .rounds) in (
+            q ∙ (λ i. preferenceOf (m i) (length first) (n i) (length second))
+                ∙ ap (λ (l : ℕ). record { number = 0; which = whichAs (some w); length = l }) (sym (length-two w first second))
+                ∙ ap (λ (x : Answer ChosenSheet). chosenAs (returnedChoice x)) (sym chose),
+            preferred,
+          )
