@@ -1,5 +1,6 @@
-# "make -s plan <TICKET" plans a ticket. "make" builds the archive, the program, the tools and the examples; "make install" puts header, archive,
-# pkg-config file and program below PREFIX. Archive and program are proved before they are written: that needs rt on the path and minutes.
+# "make -s plan <TICKET" plans a ticket, "make -s page <TICKET" prints its page. "make" builds the archive, the programs, the tools and the examples;
+# "make install" puts header, archive, pkg-config file and programs below PREFIX. Archive and programs are proved before they are written: that needs
+# rt on the path and minutes.
 
 VERSION = 0.1.0
 PREFIX = /usr/local
@@ -8,27 +9,27 @@ RT = rt
 INSTALL = install
 
 ARCHIVE = target/staticlib/libplanner.a
-PROGRAM = target/bin/plan
+PROGRAMS = target/bin/plan target/bin/page
 PC = target/c/planner.pc
 SOURCES := crates.txt $(shell find crates -name '*.rt' -o -name '*.antt')
 
 TO = $(DESTDIR)$(PREFIX)
 TRIAL = target/c/install
 
-all: $(ARCHIVE) $(PROGRAM) tools example
+all: $(ARCHIVE) $(PROGRAMS) tools example
 
 # What rt prints while it proves goes to standard error.
-plan: $(PROGRAM)
-	@$(PROGRAM)
+plan page: %: target/bin/%
+	@$<
 
-.PHONY: all plan tools example install uninstall check-install clean
+.PHONY: all plan page tools example install uninstall check-install clean
 
 target/staticlib/libplanner.a: $(SOURCES)
 	$(RT) staticlib planner >&2 </dev/null
 	@test -f $@ && touch $@
 
-target/bin/plan: $(SOURCES)
-	$(RT) check plan >&2 </dev/null
+$(PROGRAMS): target/bin/%: $(SOURCES)
+	$(RT) check $* >&2 </dev/null
 	@test -f $@ && touch $@
 
 tools:
@@ -37,18 +38,19 @@ tools:
 example: $(ARCHIVE)
 	$(MAKE) -C examples all LIBRARY=$(abspath $(ARCHIVE))
 
-install: $(ARCHIVE) $(PROGRAM)
+install: $(ARCHIVE) $(PROGRAMS)
 	mkdir -p $(dir $(PC)) $(TO)/include $(TO)/lib/pkgconfig $(TO)/bin
 	sed 's|@PREFIX@|$(PREFIX)|;s|@VERSION@|$(VERSION)|' planner.pc.in >$(PC)
 	$(INSTALL) -m 644 include/planner.h $(TO)/include
 	$(INSTALL) -m 644 $(ARCHIVE) $(TO)/lib
 	$(INSTALL) -m 644 $(PC) $(TO)/lib/pkgconfig
-	$(INSTALL) -m 755 $(PROGRAM) $(TO)/bin
+	$(INSTALL) -m 755 $(PROGRAMS) $(TO)/bin
 
 uninstall:
-	rm -f $(TO)/include/planner.h $(TO)/lib/libplanner.a $(TO)/lib/pkgconfig/planner.pc $(TO)/bin/$(notdir $(PROGRAM))
+	rm -f $(TO)/include/planner.h $(TO)/lib/libplanner.a $(TO)/lib/pkgconfig/planner.pc $(addprefix $(TO)/bin/,$(notdir $(PROGRAMS)))
 
-# Installs into a folder of its own, builds the example from there as any C program would, and runs it and the program.
+# Installs into a folder of its own, builds the example from there as any C program would, and runs it and the programs: the plan of case F, the page
+# of case G.
 check-install: tools
 	rm -rf $(TRIAL)
 	$(MAKE) install DESTDIR=$(abspath $(TRIAL))
@@ -56,8 +58,8 @@ check-install: tools
 	    'gcc -std=c11 -Wall -Wextra -Werror examples/plan_case_f.c $$(pkg-config --cflags --libs planner) -o $(TRIAL)/example'
 	$(TRIAL)/example >$(TRIAL)/example.out
 	cmp $(TRIAL)/example.out examples/expected.txt
-	target/c/tools/ticket tools/cases/F.txt | $(TRIAL)$(PREFIX)/bin/$(notdir $(PROGRAM)) >$(TRIAL)/program.out
-	printf 'sparing 4\n0 2\n1 3\n' | cmp - $(TRIAL)/program.out
+	for run in plan/F page/G; do \
+	    target/c/tools/ticket tools/cases/$${run#*/}.txt | $(TRIAL)$(PREFIX)/bin/$${run%/*} | cmp - crates/$${run%/*}/stdout || exit 1; done
 	$(MAKE) uninstall DESTDIR=$(abspath $(TRIAL))
 	test -z "$$(find $(TRIAL)$(PREFIX) -type f)"
 	@echo "installed, used through pkg-config, removed"

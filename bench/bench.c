@@ -4,8 +4,7 @@
  * Times the library and the reference in turn on the same bytes, REPEATS times (default 31), and prints medians of times and of
  * ratios as tables in markdown. Writes the figures of the growing jobs to the file DATA. Exit 1 if a ratio is above what is asked of full-size
  * jobs: planning half of the reference's time, checking all of it. */
-#include "../tests/reference/chance.h"
-#include "../tests/reference/reference.h"
+#include "jobs.h"
 #include "stack.h"
 #include <planner.h>
 
@@ -18,60 +17,6 @@ enum { MOST_REPEATS = 1001, ENOUGH = 100000 /* nanoseconds in one measurement, a
 enum call { PLAN, REF_PLAN, CHECK, REF_CHECK, CHOOSE, REF_CHOOSE, CALLS };   /* each beside the reference's */
 
 static const double most_ratio[2] = {0.5, 1.0};   /* planning, checking */
-
-/* ---- Jobs ---- */
-
-enum pattern { RANDOM, CYCLIC, THRASH, CROWDED, SAME };
-
-static const char *const pattern_name[] = {"random", "cyclic", "thrash", "crowded", "same"};
-
-struct shape {
-    enum pattern pattern;
-    unsigned disks, blocks, references, slots;
-};
-
-/* Blocks lie on the disks in turn. Random: any block. Cyclic: all blocks, over and over. Thrash: disk 0 has one slot, and
- * every second reference is the next of its blocks; the others are any block of the other disks. Crowded: any block, and all
- * but one in eight lie on disk 0. Same: block 0 each time. */
-static unsigned draw_reference(struct chance *c, const struct shape *s, unsigned i)
-{
-    unsigned any = below(c, s->blocks), on_first = (s->blocks + s->disks - 1) / s->disks;
-
-    switch (s->pattern) {
-    case CYCLIC:
-        return i % s->blocks;
-    case THRASH:
-        if (i % 2 == 0)
-            return i / 2 % on_first * s->disks;
-        return any % s->disks == 0 ? any + 1 : any;
-    case SAME:
-        return 0;
-    default:
-        return any;
-    }
-}
-
-static unsigned disk_of(const struct shape *s, unsigned b)
-{
-    if (s->pattern != CROWDED)
-        return b % s->disks;
-    return b % 8 != 0 ? 0 : b / 8 % s->disks;
-}
-
-static void make_job(const struct shape *s, struct ref_job *job)
-{
-    struct chance c = chance_for(1, s->pattern);
-
-    job->disks = s->disks;
-    job->blocks = s->blocks;
-    job->references = s->references;
-    for (unsigned d = 0; d < s->disks; d++)
-        job->slots[d] = s->pattern == THRASH && d == 0 ? 1 : s->slots;
-    for (unsigned b = 0; b < s->blocks; b++)
-        job->disk[b] = (uint8_t)disk_of(s, b);
-    for (unsigned i = 0; i < s->references; i++)
-        job->reference[i] = (uint16_t)draw_reference(&c, s, i);
-}
 
 /* ---- The calls ---- */
 
@@ -176,19 +121,6 @@ static double time_of(enum call call, unsigned times)
     return (nanoseconds() - start) / times;
 }
 
-static int compare(const void *a, const void *b)
-{
-    double x = *(const double *)a, y = *(const double *)b;
-
-    return (x > y) - (x < y);
-}
-
-static double median_of(double *values, unsigned how_many)
-{
-    qsort(values, how_many, sizeof values[0], compare);
-    return values[how_many / 2];
-}
-
 struct result {
     double took[CALLS];        /* median nanoseconds; checking is one sheet's, the mean of both */
     double ratio[CALLS / 2];   /* planning, checking, choosing: median of library / reference, each pair measured one after the other */
@@ -230,21 +162,6 @@ static void print_row(const struct result *r)
 static void print_head(const char *first)
 {
     printf("| %s | plan, us | reference | ratio | check, us | reference | ratio |\n|---|---|---|---|---|---|---|\n", first);
-}
-
-/* The jobs of full size: 8 disks, 512 blocks, 2,048 references. */
-enum { FULL_SIZE = 12 };
-
-static struct shape full_shape(unsigned k)
-{
-    static const unsigned slots[] = {1, 4, 64};
-
-    return (struct shape){(enum pattern)(k / 3), 8, 512, 2048, slots[k % 3]};
-}
-
-static void print_full(const struct shape *s)
-{
-    printf("| %s, %u slot%s |", pattern_name[s->pattern], s->slots, s->slots == 1 ? "" : "s");
 }
 
 /* 1 if a ratio is above what is asked. */

@@ -2,7 +2,8 @@
  *
  * usage: seeds FOLDER FILE...
  * Each vector gives inputs: a check its ticket with its sheet twice, a choice its ticket with both sheets, and a plan that is not refused its
- * ticket with the two sheets that it ends in, in both orders; a refused plan gives its ticket with two empty sheets. */
+ * ticket with the two sheets that it ends in, in both orders; a refused plan gives its ticket with two empty sheets. A page, which C programs cannot
+ * ask for, gives none. */
 #include "input.h"
 
 #include <stdio.h>
@@ -47,7 +48,7 @@ static void take_line(const char *folder, char *line)
 {
     char *call = strtok(line, " \n"), *ticket = strtok(NULL, " \n"), *sheet = strtok(NULL, " \n"), *word, *last[4] = {"-", "-", "-", "-"};
 
-    if (call == NULL || call[0] == '#' || ticket == NULL || sheet == NULL)
+    if (call == NULL || call[0] == '#' || ticket == NULL || sheet == NULL || strcmp(call, "page") == 0)
         return;
     if (strcmp(call, "check") == 0) {
         write_input(folder, ticket, sheet, sheet);

@@ -8,7 +8,7 @@
  *   planner_check   passes a sheet exactly if it is a valid schedule of the ticket, whoever drew it up.
  *   planner_choose  checks two sheets for a ticket, whoever drew them up, and hands back the second if it takes no more rounds than the first,
  *                   otherwise the first.
- *   planner_why     gives the sentence for a number that they return. It is plain C, in this header, and not proved.
+ *   planner_why     gives the sentence for the number of a refusal. It is plain C, in this header, and not proved.
  *
  * A ticket is a job as bytes, a sheet a schedule as bytes. No sheet that planner_check passes for a ticket takes fewer rounds than the short plan,
  * or on any disk fewer fetches than the sparing plan. This, each result and every byte written are proved of the source; the compiler is trusted.
@@ -60,7 +60,9 @@ enum planner_number {
     PLANNER_SHEET_CLOSING = 16,
     /* the rooms, in planner_plan */
     PLANNER_SHORT_ROOM = 17,
-    PLANNER_SPARING_ROOM = 18
+    PLANNER_SPARING_ROOM = 18,
+    /* the page, in the planning call with a page. That call is for Rattle callers alone: no call of this header returns this number. */
+    PLANNER_PAGE_ROOM = 19
 };
 
 /* The sentence for a number, to be printed after it: at most 80 characters, without a full stop. It is not to be changed or freed. */
@@ -86,6 +88,7 @@ static inline const char *planner_why(uint32_t number)
     case PLANNER_SHEET_CLOSING:     return "the sheet's closing bits are not all zero, or a byte follows them";
     case PLANNER_SHORT_ROOM:        return "the short sheet has more bytes than its buffer";
     case PLANNER_SPARING_ROOM:      return "the sparing sheet has more bytes than its buffer";
+    case PLANNER_PAGE_ROOM:         return "the page has more bytes than its buffer";
     default:                        return "no call returns this number";
     }
 }

@@ -127,6 +127,23 @@ void draw_job(struct chance *c, struct ref_job *job)
     draw_references(c, job);
 }
 
+void draw_longest(struct chance *c, struct ref_job *job)
+{
+    unsigned last = 0;
+
+    job->disks = REF_DISKS;
+    job->blocks = REF_BLOCKS;
+    job->references = REF_REFERENCES;
+    for (unsigned d = 0; d < job->disks; d++)
+        job->slots[d] = 1;
+    for (unsigned b = 0; b < job->blocks; b++)
+        job->disk[b] = REF_DISKS - 1;
+    for (unsigned i = 0; i < job->references; i++) {
+        last = (last + between(c, 1, REF_BLOCKS - 1)) % REF_BLOCKS;
+        job->reference[i] = (uint16_t)last;
+    }
+}
+
 /* ---- Schedules ---- */
 
 /* A run in progress, kept here on its own so that nothing is borrowed from the reference. */

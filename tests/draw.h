@@ -8,6 +8,10 @@
 /* A job within document 01's limits: mostly small, now and then at the very limits. */
 void draw_job(struct chance *c, struct ref_job *job);
 
+/* A job with the longest ticket and the longest page, 2,048 rounds on eight disks: all references
+ * are to the last disk, which has one slot, and no two in a row are to the same block. */
+void draw_longest(struct chance *c, struct ref_job *job);
+
 /* A schedule of allowed actions; gives its rounds, at most REF_ROUNDS.
  * FINISHED ends with the round that consumes the last reference, LATE has rounds after it,
  * UNFINISHED leaves references (unless there are none). */

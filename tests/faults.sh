@@ -61,12 +61,12 @@ fault '14 not tested' 'reference 14' 's/return 14;/return 0;/'
 fault 'unfinished sheets pass' 'number: library 0, reference 15' 's/return 15;/return 0;/'
 fault 'lowest number among several nevers' 'DISAGREE: s' 's/(distance\[b\] )>=( l->distance\[v->min_block)/\1>\2/'
 fault 'P-CON never waits' 'DISAGREE' 's/rule == REF_P_CON && waits/false \&\& waits/'
-fault 'the mark of equal rounds' 'DISAGREE: counts' 's/p.mark = choice\(p.counts\)/p.mark = p.counts[1].rounds < p.counts[0].rounds/'
+fault 'the mark of equal rounds' 'DISAGREE: counts' 's/p->mark = choice\(p->counts\)/p->mark = p->counts[1].rounds < p->counts[0].rounds/'
 fault '18 tested before 17' 'number: library 18, reference 17' \
-    's/p.sheet_length\[k\] > room\[k\]/p.sheet_length[1 - k] > room[1 - k]/;s/return 17 \+ k/return 18 - k/'
-fault 'exact room refused' 'number: library 17, reference 0' 's/p.sheet_length\[k\] > room/p.sheet_length[k] >= room/'
+    's/p->sheet_length\[k\] > room\[k\]/p->sheet_length[1 - k] > room[1 - k]/;s/return 17 \+ k/return 18 - k/'
+fault 'exact room refused' 'number: library 17, reference 0' 's/p->sheet_length\[k\] > room/p->sheet_length[k] >= room/'
 fault 'short sheet written although 18' 'DISAGREE: short sheet' \
-    's/^            return 17 \+ k;/&\n        else ref_write_sheet(schedule[k], p.counts[k].rounds, job.disks, buffer[k], room[k]);/'
+    '/^unsigned ref_plan/,/^}/s/^    if \(number != 0\)$/    if (number == 18) ref_write_sheet(drawn.schedule[0], drawn.planned.counts[0].rounds, drawn.job.disks, p_min, ns);\n&/'
 fault 'a byte past the sheet changed' 'DISAGREE: s' \
     '/^size_t ref_write_sheet/,/^}/s/memset\(buf, 0, len\)/memset(buf, 0, len < room ? len + 1 : len)/'
 fault 'a byte past the lent buffer changed' '(a guard)\|STOPPED' \
@@ -102,8 +102,8 @@ fault 'counts past the two numbers zeroed' 'DISAGREE: counts' \
     '/^uint32_t planner_choose/,/^}/s/^    return number;/    for (size_t k = 4; number == 0 \&\& k < counts_length; k++)\n        counts[k] = 0;\n&/'
 
 # Demand 3: a sheet beats the wrong plan.
-on_demand='if (view[d].u != REF_NONE \&\& l.distance[view[d].u] != next_read) view[d].u = REF_NONE;'
-both 'demand-only fetching' 'beats a plan (demand 3)' "s/^        survey\\(.*/&\\nfor (unsigned d = 0; d < job->disks; d++) $on_demand/"
+on_demand='if (view[d].u != REF_NONE \&\& r->l.distance[view[d].u] != before) view[d].u = REF_NONE;'
+both 'demand-only fetching' 'beats a plan (demand 3)' "s/^    survey\\(.*/&\\nfor (unsigned d = 0; d < job->disks; d++) $on_demand/"
 
 # What is promised of the choice
 both 'the second checked first' 'another number than the check' "$second_first"

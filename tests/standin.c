@@ -5,6 +5,7 @@
 #define ref_write_sheet in_write_sheet
 #define ref_run in_run
 #define ref_plan in_plan
+#define ref_page in_page
 #define ref_check in_check
 #define ref_choose in_choose
 #define ref_planned_numbers in_planned_numbers

@@ -1,6 +1,6 @@
 /* why.c - planner_why of planner.h: a sentence for each number, and one for all others.
  *
- * Each sentence has words that no other has, those of its number in document 01: so all differ,
+ * Each sentence has words that no other has, those of its number in the papers: so all differ,
  * and none stands at another's number. Exit 0 only if that holds and all are in the header's style. */
 #include <planner.h>
 
@@ -18,7 +18,7 @@ static const char *const words[] = {
     "a reference", "ticket's closing",
     "sheet ends", "2048 rounds", "its own", "already", "every slot", "discards a block", "are left",
     "sheet's closing",
-    "short sheet", "sparing sheet"
+    "short sheet", "sparing sheet", "page"
 };
 
 enum { NUMBERS = sizeof words / sizeof words[0] };

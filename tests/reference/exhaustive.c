@@ -4,7 +4,8 @@
  * A state is the next read and the set of resident blocks. All states that allowed actions can
  * reach are searched for the fewest rounds, and then, for each disk on its own, for the fewest
  * fetches there. Exit 0 only if these are the rounds of P-MIN and the fetches of P-CON, the sheets
- * of both pass the check with the plans' counts, and the choice between them follows the rounds. */
+ * of both pass the check with the plans' counts, the choice between them follows the rounds, and
+ * each line of the page says what the sheet handed back does, with the letter of the papers. */
 #include "chance.h"
 #include "reference.h"
 
@@ -170,6 +171,170 @@ static bool plans_are_least(const struct ref_job *job, const struct ref_planned 
     return good;
 }
 
+/* ---- The page, line by line ---- */
+
+enum { LETTERS = 5 };
+
+static const char letters[LETTERS + 1] = "EMSWN";
+static unsigned long letters_met[LETTERS];
+
+/* The next field of a sheet. */
+static unsigned take(const uint8_t *sheet, size_t *at, unsigned width)
+{
+    unsigned value = 0;
+
+    for (; width > 0; width--, ++*at)
+        value = value << 1 | (sheet[*at / 8] >> (7 - *at % 8) & 1);
+    return value;
+}
+
+static struct ref_action take_action(const uint8_t *sheet, size_t *at)
+{
+    struct ref_action a = {REF_NONE, REF_NONE};
+
+    if (take(sheet, at, 1) == 1) {
+        a.fetch = (uint16_t)take(sheet, at, 9);
+        if (take(sheet, at, 1) == 1)
+            a.discard = (uint16_t)take(sheet, at, 9);
+    }
+    return a;
+}
+
+/* The position of the first reference, at or after this one, to a block of the set; N if none. */
+static unsigned due(const struct ref_job *job, unsigned set, unsigned at)
+{
+    while (at < job->references && !(set >> job->reference[at] & 1))
+        at++;
+    return at;
+}
+
+/* A disk at the start of a round. */
+struct seen {
+    unsigned held, outside;    /* its blocks in the buffer, and the others */
+    unsigned slots, next_read;
+};
+
+static struct seen look(const struct ref_job *job, unsigned d, unsigned set, unsigned next_read)
+{
+    struct seen s = {0, 0, job->slots[d], next_read};
+
+    for (unsigned b = 0; b < job->blocks; b++)
+        if (job->disk[b] == d)
+            *(set >> b & 1 ? &s.held : &s.outside) |= 1u << b;
+    return s;
+}
+
+/* Whether this one of the buffered blocks is due last; of several that are never, the highest. */
+static bool due_last(const struct ref_job *job, const struct seen *s, unsigned block)
+{
+    unsigned when = due(job, 1u << block, s->next_read);
+
+    for (unsigned b = 0; b < job->blocks; b++)
+        if (s->held >> b & 1) {
+            unsigned other = due(job, 1u << b, s->next_read);
+
+            if (other > when || (other == when && b > block))
+                return false;
+        }
+    return true;
+}
+
+/* The letter by the papers' words, or 0 if the action is not what they say. With full slots: S if
+ * every buffered block is read before U; M if one is replaced; else W, which only P-CON gives. */
+static char letter_of(const struct ref_job *job, const struct seen *s, enum ref_rule rule,
+                      struct ref_action a)
+{
+    unsigned before = 0, u_due = due(job, s->outside, s->next_read);
+    bool idle = a.fetch == REF_NONE;
+
+    if (u_due == job->references)
+        return idle ? 'N' : 0;
+    if (!idle && a.fetch != job->reference[u_due])
+        return 0;
+    if (size(s->held) < s->slots)
+        return !idle && a.discard == REF_NONE ? 'E' : 0;
+    for (unsigned i = s->next_read; i < u_due; i++)
+        before |= 1u << job->reference[i];
+    if ((s->held & ~before) == 0)
+        return idle ? 'S' : 0;
+    if (idle)
+        return rule == REF_P_CON ? 'W' : 0;
+    return a.discard < job->blocks && (s->held >> a.discard & 1) && due_last(job, s, a.discard)
+               ? 'M' : 0;
+}
+
+/* A block in three columns. */
+static void put_block(char *to, uint16_t block)
+{
+    if (block == REF_NONE)
+        strcpy(to, "---");
+    else
+        sprintf(to, "%3u", (unsigned)block);
+}
+
+/* One line of the page against one action of the sheet. */
+static bool line_agrees(const uint8_t *line, unsigned round, unsigned d, struct ref_action a,
+                        char letter)
+{
+    char want[64], fetched[16], discarded[16];
+
+    if (letter == 0)
+        return false;
+    letters_met[strchr(letters, letter) - letters]++;
+    put_block(fetched, a.fetch);
+    put_block(discarded, a.discard);
+    sprintf(want, "%4u %u %s %s %c\n", round, d, fetched, discarded, letter);
+    return strlen(want) == REF_LINE && memcmp(line, want, REF_LINE) == 0;
+}
+
+/* Replays a sheet beside its page: a line for each round and disk, then the legend. */
+static bool page_agrees(const struct ref_job *job, enum ref_rule rule, const uint8_t *sheet,
+                        const uint8_t *page, size_t length)
+{
+    static const char legend[] = "E empty slot    \nM min-block out \nS used sooner   \n"
+                                 "W waits         \nN none left     \n";
+    unsigned set = 0, next_read = 0;
+    size_t at = 0, rounds = take(sheet, &at, 12);
+
+    if (length != rounds * job->disks * REF_LINE + strlen(legend))
+        return false;
+    for (unsigned round = 1; round <= rounds; round++) {
+        for (unsigned d = 0; d < job->disks; d++, page += REF_LINE) {
+            struct seen s = look(job, d, set, next_read);
+            struct ref_action a = take_action(sheet, &at);
+
+            if (!line_agrees(page, round, d, a, letter_of(job, &s, rule, a)))
+                return false;
+            if (a.discard != REF_NONE)
+                set &= ~(1u << a.discard);
+            if (a.fetch != REF_NONE)
+                set |= 1u << a.fetch;
+        }
+        while (next_read < job->references && set >> job->reference[next_read] & 1)
+            next_read++;
+    }
+    return memcmp(page, legend, strlen(legend)) == 0;
+}
+
+/* The page call gives what planning gives, and the page agrees with the sheet handed back. */
+static bool page_follows(const struct ref_job *job, const struct written *w,
+                         const struct ref_planned *planned)
+{
+    static uint8_t sheet[2][REF_SHEET], page[REF_PAGE];
+    struct ref_paged paged;
+
+    if (ref_page(w->ticket, w->n, sheet[0], REF_SHEET, sheet[1], REF_SHEET, page, REF_PAGE,
+                 &paged) != 0 || paged.planned.mark != planned->mark ||
+        paged.planned.length != planned->length)
+        return false;
+    for (int k = 0; k < 2; k++)
+        if (memcmp(&paged.planned.counts[k], &planned->counts[k], sizeof planned->counts[k]) != 0 ||
+            paged.planned.sheet_length[k] != planned->sheet_length[k] ||
+            memcmp(sheet[k], w->sheet[k], planned->sheet_length[k]) != 0)
+            return false;
+    return page_agrees(job, (enum ref_rule)planned->mark, sheet[planned->mark], page, paged.length);
+}
+
 /* Says what does not hold of a job, and gives the exit status. */
 static int report(const char *what, uint64_t seed, uint64_t k, const struct ref_job *job)
 {
@@ -204,12 +369,18 @@ int main(int argc, char **argv)
             return report("NOT THE LEAST", seed, k, &job);
         if (!choices_follow_rounds(&written, &planned))
             return report("ANOTHER CHOICE", seed, k, &job);
+        if (!page_follows(&job, &written, &planned))
+            return report("ANOTHER PAGE", seed, k, &job);
         slower += planned.counts[REF_P_CON].rounds > planned.counts[REF_P_MIN].rounds;
         spares += memcmp(planned.counts[0].fetches, planned.counts[1].fetches,
                          sizeof planned.counts[0].fetches) != 0;
     }
-    printf("%" PRIu64 " jobs searched (seed %" PRIu64 "): the plans are the least in all, and the "
-           "choices follow the rounds\n", count, seed);
+    printf("%" PRIu64 " jobs searched (seed %" PRIu64 "): the plans are the least in all, the "
+           "choices follow the rounds, and the pages the sheets\n", count, seed);
     printf("  P-CON took more rounds than P-MIN in %u, and other fetches in %u\n", slower, spares);
+    printf("  letters met:");
+    for (unsigned k = 0; k < LETTERS; k++)
+        printf(" %c:%lu", letters[k], letters_met[k]);
+    printf("\n");
     return 0;
 }

@@ -1,6 +1,6 @@
 # mutants.sh - wrong planners, each of which the vectors or the search must catch.
 #
-# usage: sh mutants.sh BUILD     (BUILD has vectors.o, exhaustive.o and chance.o)
+# usage: sh mutants.sh BUILD     (BUILD has vectors.o, answer.o, exhaustive.o and chance.o)
 # A mutant is a copy of reference.c changed by a sed script, in BUILD/mutant.
 cd "$(dirname "$0")" || exit 2
 cc=${CC:-cc}
@@ -8,7 +8,7 @@ build=$1
 dir=$build/mutant
 missed=0
 tried=0
-cat ../vectors/L1.txt ../vectors/edges.txt >"$build/all.txt" || exit 2
+cat ../vectors/L2.txt ../vectors/edges.txt ../vectors/longest.txt >"$build/all.txt" || exit 2
 
 # trial NAME SCRIPT TEST WORDS ARGUMENT... - the changed copy must differ and compile, and the test
 # must say what is wrong with it: a crash would not do.
@@ -19,12 +19,12 @@ trial() {
     rm -rf "$dir" && mkdir -p "$dir"
     sed -E "$script" reference.c >"$dir/reference.c"
     if cmp -s reference.c "$dir/reference.c" ||
-        ! $cc -O1 -std=c11 -I. -c "$dir/reference.c" -o "$dir/reference.o"; then
+        ! $cc -std=c11 -I. -c "$dir/reference.c" -o "$dir/reference.o"; then
         echo "BROKEN  $name"
         missed=$((missed + 1))
         return
     fi
-    $cc "$build/$test.o" "$build/chance.o" "$dir/reference.o" -o "$dir/$test" || exit 2
+    $cc "$build/$test.o" "$build/answer.o" "$build/chance.o" "$dir/reference.o" -o "$dir/$test" || exit 2
     timeout 60 "$dir/$test" "$@" >"$dir/report"
     if [ $? -ne 1 ] || ! grep -q "$words" "$dir/report"; then
         echo "MISSED  $name ($test)"
@@ -42,15 +42,52 @@ searched() {
     trial "$1" "$2" exhaustive "$3" 1 10000
 }
 
-on_demand='if (view[d].u != REF_NONE \&\& l.distance[view[d].u] != next_read) view[d].u = REF_NONE;'
+on_demand='if (view[d].u != REF_NONE \&\& r->l.distance[view[d].u] != before) view[d].u = REF_NONE;'
 each_disk='for (unsigned d = 0; d < job->disks; d++)'
 
 # Scripts used more than once
 no_wait='s/rule == REF_P_CON && waits/false \&\& waits/'
 all_wait='s/rule == REF_P_CON && waits/waits/'
-demand="s/^        survey\\(.*/&\\n$each_disk $on_demand/"
+demand="s/^    survey\\(.*/&\\n$each_disk $on_demand/"
 early='s/^    if \(l->distance\[v.min_block\] < /    if (rule == REF_P_MIN \&\& l->distance[v.min_block] < /
     s/if \(from_u > l->distance\[v.min_block\]\)/unsigned m = l->distance[v.min_block]; while (m < l->distance[v.u]) m = l->next[m]; if (from_u > m)/'
+written_first='s/^    if \(number != 0\)$/    if (number == 18) ref_write_sheet(drawn.schedule[0], drawn.planned.counts[0].rounds, drawn.job.disks, p_min, ns);\n&/'
+n_as_e="s/return 'N'/return s->held[d] < job->slots[d] ? 'E' : 'N'/"
+n_as_s="s/return 'N'/return s->held[d] == job->slots[d] \\&\\& l->distance[v.min_block] < job->references ? 'S' : 'N'/"
+s_as_w="s/return 'S'/return rule == REF_P_CON \\&\\& waits(job, s, l, d, v) ? 'W' : 'S'/
+    s/if \(from_u > l->distance\[v.min_block\]\)/unsigned m = l->distance[v.min_block]; while (m < l->distance[v.u]) m = l->next[m]; if (from_u > m)/"
+next_disk='s/actions\[d\], letters/actions[(d + 1) % job->disks], letters/'
+next_letter='s/letters\[d\]\);/letters[(d + 1) % job->disks]);/'
+each_round='for \(begin\(job, &r\); r.next_read < job->references;\) \{'
+by_disk="s/^    $each_round/    for (unsigned only = 0; only < job->disks; only++)\\n    for (begin(job, \\&r), round = 0; r.next_read < job->references;) {/
+    s/^        for \\(unsigned d = 0; (.* page \\+= REF_LINE)/        for (unsigned d = only; d == only \\&\\& \\1/"
+exchanged='/^static void put_line/,/^}/{s/a\.fetch/a.left/;s/a\.discard/a.fetch/;s/a\.left/a.discard/}'
+of_p_con='s/rule = \(enum ref_rule\)drawn.planned.mark/rule = REF_P_CON/'
+of_p_min='s/rule = \(enum ref_rule\)drawn.planned.mark/rule = REF_P_MIN/'
+of_other='s/rule = \(enum ref_rule\)drawn.planned.mark/rule = (enum ref_rule)(1 - drawn.planned.mark)/'
+page_length='((size_t)drawn.planned.counts[choice(drawn.planned.counts)].rounds * drawn.job.disks + REF_LEGEND) * REF_LINE'
+in_page='/^unsigned ref_page/,/^}/'
+
+# shown LETTER OTHER - the script that has another letter stand on the page for this one.
+shown() {
+    printf "s/line\\\\[15\\\\] = .*/line[15] = (uint8_t)(letter == '%s' ? '%s' : letter);/" "$1" "$2"
+}
+
+# round_as, block_as, disk_as EXPRESSION - the script that has this stand on the page for the number.
+round_as() {
+    printf 's/put_number\\(line, 4, round\\)/put_number(line, 4, %s)/' "$1"
+}
+block_as() {
+    printf 's/put_number\\(to, 3, block\\)/put_number(to, 3, %s)/' "$1"
+}
+disk_as() {
+    printf 's/put_number\\(line \\+ 5, 1, d\\)/put_number(line + 5, 1, %s)/' "$1"
+}
+
+# before_number TEXT - the script that has this come before a refusal by ticket or sheets, in the page call.
+before_number() {
+    printf '%ss/^    if \\(number != 0\\)$/    %s\\n&/' "$in_page" "$1"
+}
 
 # chosen EXPRESSION - the script that has ref_choose hand back the second sheet where this holds.
 chosen() {
@@ -66,11 +103,11 @@ mutant 'lowest number among several nevers' \
     's/(distance\[b\] )>=( l->distance\[v->min_block)/\1>\2/'
 mutant 'demand-only fetching' "$demand"
 mutant 'prefetch in round 1, later only demands' \
-    "s/^        survey\\(.*/&\\nif (counts->rounds > 0) $each_disk $on_demand/"
+    "s/^    survey\\(.*/&\\nif (before > 0) $each_disk $on_demand/"
 mutant 'Definition 4 to the letter: idle beside an empty slot' \
     's/held\[d\] < job->slots\[d\]\)$/held[d] < job->slots[d] \&\& (v.min_block == REF_NONE || l->distance[v.min_block] >= l->distance[v.u]))/'
 mutant 'Definition 5 to the letter: a block out beside an empty slot' \
-    's/return \(struct ref_action\)\{v.u, REF_NONE\}/return (struct ref_action){v.u, rule == REF_P_CON ? v.min_block : REF_NONE}/'
+    "s/return 'E'/return rule == REF_P_CON \\&\\& v.min_block != REF_NONE ? 'M' : 'E'/"
 mutant 'Definition 5 to the letter: discards a block due before U' "$early"
 mutant 'P-CON never waits' "$no_wait"
 mutant 'P-MIN waits too' "$all_wait"
@@ -78,26 +115,26 @@ mutant 'P-CON: two nevers not equal, the higher number is later' \
     's/if \(from_u > l->distance\[v.min_block\]\)/if (from_u > l->distance[v.min_block] || (from_u == l->distance[v.min_block] \&\& b > v.min_block \&\& from_u != l->distance[b]))/'
 mutant 'P-CON counted from the next read, not from U' \
     's/while \(from_u < l->distance\[v.u\]\)/while (false)/'
-mutant 'equal rounds give the sheet of P-MIN' 's/p.mark = choice\(p.counts\)/p.mark = p.counts[1].rounds < p.counts[0].rounds/'
+mutant 'equal rounds give the sheet of P-MIN' 's/p->mark = choice\(p->counts\)/p->mark = p->counts[1].rounds < p->counts[0].rounds/'
 
 # What planning hands back
-mutant 'part length always that of P-MIN' 's/(p.length = .*)\[p.mark\]/\1[REF_P_MIN]/'
+mutant 'part length always that of P-MIN' 's/(p->length = .*)\[p->mark\]/\1[REF_P_MIN]/'
 mutant 'counts of the two plans exchanged' \
     '/^void ref_planned_numbers/,/^}/{s/REF_P_MIN/REF_LEFT/;s/REF_P_CON/REF_P_MIN/;s/REF_LEFT/REF_P_CON/}'
 mutant 'reports a fetch it did not make' \
-    '/^unsigned ref_plan/,/^}/s/^    p.mark = /    p.counts[1].fetches[7] += job.disks == 8;\n&/'
+    's/^    p->mark = /    p->counts[1].fetches[7] += drawn->job.disks == 8;\n&/'
 mutant 'only the chosen sheet is written' \
-    's/^        ref_write_sheet\(/        if (k == (int)choice(p.counts)) ref_write_sheet(/'
+    's/^        ref_write_sheet\(/        if (k == (int)choice(drawn->planned.counts)) ref_write_sheet(/'
 mutant 'buffers left untouched' 's/^        ref_write_sheet\(/        if (k > 2) ref_write_sheet(/'
 mutant 'a byte past the sheet changed' \
     '/^size_t ref_write_sheet/,/^}/s/memset\(buf, 0, len\)/memset(buf, 0, len < room ? len + 1 : len)/'
 mutant 'a byte past the lent buffer changed' \
     '/^size_t ref_write_sheet/,/^}/s/memset\(buf, 0, len\)/memset(buf, 0, len == room ? len + 1 : len)/'
 mutant '18 tested before 17' \
-    's/p.sheet_length\[k\] > room\[k\]/p.sheet_length[1 - k] > room[1 - k]/;s/return 17 \+ k/return 18 - k/'
-mutant 'exact room refused' 's/p.sheet_length\[k\] > room/p.sheet_length[k] >= room/'
+    's/p->sheet_length\[k\] > room\[k\]/p->sheet_length[1 - k] > room[1 - k]/;s/return 17 \+ k/return 18 - k/'
+mutant 'exact room refused' 's/p->sheet_length\[k\] > room/p->sheet_length[k] >= room/'
 mutant 'sheet of P-MIN written although 18' \
-    's/^            return 17 \+ k;/&\n        else ref_write_sheet(schedule[k], p.counts[k].rounds, job.disks, buffer[k], room[k]);/'
+    "/^unsigned ref_plan/,/^}/$written_first"
 mutant 'a number cut in the middle is left out' 's/k < len && k < 2/k < len - len % 2 \&\& k < 2/'
 mutant 'least significant byte first' 's/k % 2 == 0 \? numbers/k % 2 == 1 ? numbers/'
 
@@ -173,6 +210,74 @@ mutant 'the last eight bits of the length' 's/\(uint16_t\)len\[out->which\]/(uin
 mutant 'which and length exchanged' \
     '/^void ref_chosen_numbers/,/^}/{s/chosen->which/chosen->left/;s/chosen->length/chosen->which/;s/chosen->left/chosen->length/}'
 
+# The letters of a page
+mutant 'E shown as M' "$(shown E M)"
+mutant 'M shown as S' "$(shown M S)"
+mutant 'S shown as W' "$(shown S W)"
+mutant 'W shown as N' "$(shown W N)"
+mutant 'N shown as E' "$(shown N E)"
+mutant 'E beside an empty slot though there is no U' "$n_as_e"
+mutant 'S where the min-block is due and there is no U' "$n_as_s"
+mutant 'W where S holds and P-CON would wait too' "$s_as_w"
+mutant 'the letter of the next disk' "$next_letter"
+
+# The columns of a page
+mutant 'rounds from 0' "$(round_as 'round - 1')"
+mutant 'the last digit of the round' "$(round_as 'round % 10')"
+mutant 'the last two digits of the round' "$(round_as 'round % 100')"
+mutant 'the last three digits of the round' "$(round_as 'round % 1000')"
+mutant 'the last eight bits of the round' "$(round_as 'round % 256')"
+mutant 'disks from 1' "$(disk_as 'd + 1')"
+mutant 'the last two bits of the disk' "$(disk_as 'd % 4')"
+mutant 'by disk and then by round' "$by_disk"
+mutant 'the action of the next disk' "$next_disk"
+mutant 'fetched and discarded block exchanged' "$exchanged"
+mutant 'block 0 shown as none' '/^static void put_block/,/^}/s/block == REF_NONE/block == REF_NONE || block == 0/'
+mutant 'spaces for no block' 's/"---"/"   "/'
+mutant 'the last digit of a block' "$(block_as 'block % 10')"
+mutant 'the last two digits of a block' "$(block_as 'block % 100')"
+mutant 'the last eight bits of a block' "$(block_as 'block % 256')"
+mutant 'numbers left aligned' \
+    "/^static void put_number/,/^}/s/^    do \\{/    memset(to, ' ', columns);\\n    columns = value < 10 ? 1 : value < 100 ? 2 : value < 1000 ? 3 : 4;\\n&/"
+mutant 'numbers with zeros in front' "/^static void put_number/,/^}/s/= ' ';/= '0';/"
+mutant 'no line feed after a line' '/^static void put_line/,/^}/s/^    line\[16\].*/    ;/'
+
+# The legend
+mutant 'no line feed after a legend line' 's/^        line\[REF_LINE - 1\].*/        ;/'
+mutant 'W before S in the legend' 's/"S used sooner", "W waits"/"W waits", "S used sooner"/'
+mutant 'the legend by the alphabet' 's/"M min-block out", (.*), ("N none left")/"M min-block out", \2, \1/'
+mutant 'another word in the legend' 's/"N none left"/"N nothing left"/'
+mutant 'the legend before the lines' "s/^    put_legend\\(page\\);/    ;/;s/^    $each_round/    put_legend(page), page += REF_LEGEND * REF_LINE;\\n&/"
+mutant 'no legend for no rounds' 's/^    put_legend\(page\);/    if (round > 0) put_legend(page);/'
+
+# The plan of a page
+mutant 'the page of the plan not handed back' "$of_other"
+mutant 'the page of P-CON always' "$of_p_con"
+mutant 'the page of P-MIN always' "$of_p_min"
+
+# The room for a page
+mutant '19 for an exact room' 's/if \(length > ng\)/if (length >= ng)/'
+mutant 'no 19 for a room one byte short' 's/if \(length > ng\)/if (length > ng + 1)/'
+mutant '19 where the page of P-CON does not fit' 's/if \(length > ng\)/if ((drawn.planned.counts[1].rounds * drawn.job.disks + REF_LEGEND) * REF_LINE > ng)/'
+mutant '18 for the page' 's/return 19;/return 18;/'
+mutant '19 before 18' "$(before_number "if (number == 18 \\&\\& $page_length > ng) return 19;")"
+mutant '19 before 17' "$(before_number "if (number == 17 \\&\\& $page_length > ng) return 19;")"
+mutant "19 before the ticket's numbers" "$(before_number 'if (number < 9 \&\& ng < REF_LEGEND * REF_LINE) return 19;')"
+mutant '17 not tested with a page' "${in_page}s/draw_up\\(ticket, n, room/draw_up(ticket, n, (const size_t[]){REF_SHEET, np}/"
+mutant '18 not tested with a page' "${in_page}s/draw_up\\(ticket, n, room/draw_up(ticket, n, (const size_t[]){ns, REF_SHEET}/"
+mutant 'sheets written although 19' 's/^    if \(length > ng\)/    write_sheets(\&drawn, buffer, room);\n&/'
+mutant 'sheet of P-MIN written although 18, with a page' "$in_page$written_first"
+mutant 'the page begun although 19' 's/^    if \(length > ng\)/    if (ng > 0) page[0] = 32;\n&/'
+mutant 'the page begun although 18' "$(before_number 'if (number == 18 \&\& ng > 0) page[0] = 32;')"
+mutant 'a byte past the page changed' 's/^    write_page\(&drawn.*/&\n    if (length < ng) page[length] = 10;/'
+mutant "a byte past the page's buffer changed" 's/^    write_page\(&drawn.*/&\n    if (length == ng) page[length] = 10;/'
+
+# What else a call with a page gives
+mutant 'no sheets beside a page' "${in_page}s/^    write_sheets.*/    (void)buffer;/"
+mutant 'no counts beside a page' "${in_page}s/^    out->planned = .*/    (void)out;/"
+mutant 'the length without the legend' 's/out->length = length/out->length = length - REF_LEGEND * REF_LINE/'
+mutant 'the length in lines' 's/out->length = length/out->length = length \/ REF_LINE/'
+
 # Plans that are beaten
 searched 'P-CON never waits' "$no_wait" 'NOT THE LEAST'
 searched 'P-MIN waits too' "$all_wait" 'NOT THE LEAST'
@@ -183,6 +288,21 @@ searched 'P-CON discards a block due before U' "$early" 'NOT THE LEAST'
 searched 'a tie goes to the first' "$tie_first" 'ANOTHER CHOICE'
 searched 'equal rounds give the sheet of P-MIN, and the first' 's/(counts\[1\].rounds )<=( counts\[0\])/\1<\2/' 'ANOTHER CHOICE'
 searched 'chosen by fetches' "$by_fetches" 'ANOTHER CHOICE'
+
+# Pages that do not follow the sheets
+for letters in 'E M' 'M S' 'S W' 'W N' 'N E'; do
+    searched "letters on the page: $letters" "$(shown "${letters% *}" "${letters#* }")" 'ANOTHER PAGE'
+done
+searched 'E beside an empty slot though there is no U' "$n_as_e" 'ANOTHER PAGE'
+searched 'S where the min-block is due and there is no U' "$n_as_s" 'ANOTHER PAGE'
+searched 'W where S holds and P-CON would wait too' "$s_as_w" 'ANOTHER PAGE'
+searched 'the letter of the next disk' "$next_letter" 'ANOTHER PAGE'
+searched 'the action of the next disk' "$next_disk" 'ANOTHER PAGE'
+searched 'fetched and discarded block exchanged' "$exchanged" 'ANOTHER PAGE'
+searched 'by disk and then by round' "$by_disk" 'ANOTHER PAGE'
+searched 'rounds from 0' "$(round_as 'round - 1')" 'ANOTHER PAGE'
+searched 'the page of P-CON always' "$of_p_con" 'ANOTHER PAGE'
+searched 'the page of P-MIN always' "$of_p_min" 'ANOTHER PAGE'
 
 echo "$tried mutants, $missed not caught"
 [ "$missed" -eq 0 ]

@@ -1,5 +1,5 @@
-/* reference.c - document 01 and request L1, sentence by sentence; words between quotation marks are
- * their own. */
+/* reference.c - document 01 and requests L1 and L2, sentence by sentence; words between quotation
+ * marks are their own. */
 #include "reference.h"
 
 #include <stdbool.h>
@@ -255,49 +255,77 @@ static bool waits(const struct ref_job *job, const struct buffers *s, const stru
     return false;
 }
 
-/* "In each round and on each disk" */
-static struct ref_action decide(const struct ref_job *job, const struct buffers *s,
-                                const struct lookup *l, enum ref_rule rule, unsigned d,
-                                struct view v)
+/* "In each round and on each disk": the letter of the rule that gives the action. "E into an empty
+ * slot, M in place of the min-block, S idle because the min-block is due sooner than U, W idle
+ * because the sparing plan waits though S does not hold, N no U." */
+static char decide(const struct ref_job *job, const struct buffers *s, const struct lookup *l,
+                   enum ref_rule rule, unsigned d, struct view v)
+{
+    if (v.u == REF_NONE)
+        return 'N';
+    if (s->held[d] < job->slots[d])
+        return 'E';
+    if (l->distance[v.min_block] < l->distance[v.u])
+        return 'S';
+    if (rule == REF_P_CON && waits(job, s, l, d, v))
+        return 'W';
+    return 'M';
+}
+
+static struct ref_action action_of(char letter, struct view v)
 {
     const struct ref_action idle = {REF_NONE, REF_NONE};
 
-    if (v.u == REF_NONE)
-        return idle;
-    if (s->held[d] < job->slots[d])
+    if (letter == 'E')
         return (struct ref_action){v.u, REF_NONE};
-    if (l->distance[v.min_block] < l->distance[v.u])
-        return idle;
-    if (rule == REF_P_CON && waits(job, s, l, d, v))
-        return idle;
-    return (struct ref_action){v.u, v.min_block};
+    if (letter == 'M')
+        return (struct ref_action){v.u, v.min_block};
+    return idle;
+}
+
+/* A plan while it is played. */
+struct run {
+    struct buffers s;
+    struct lookup l;
+    unsigned next_read;
+};
+
+static void begin(const struct ref_job *job, struct run *r)
+{
+    memset(r, 0, sizeof *r);
+    build_lookup(job, &r->l);
+}
+
+/* One round: an action and its letter for each disk. */
+static void play_round(const struct ref_job *job, enum ref_rule rule, struct run *r,
+                       struct ref_action *actions, char *letters)
+{
+    struct view view[REF_DISKS];
+    unsigned before = r->next_read;
+
+    survey(job, &r->s, &r->l, view);
+    for (unsigned d = 0; d < job->disks; d++) {
+        letters[d] = decide(job, &r->s, &r->l, rule, d, view[d]);
+        actions[d] = action_of(letters[d], view[d]);
+        act(&r->s, d, actions[d]);
+    }
+    r->next_read = consume(job, &r->s, before);
+    keep_up(job, &r->l, before, r->next_read);
 }
 
 /* "Planning starts a round only while references remain." */
 void ref_run(const struct ref_job *job, enum ref_rule rule, struct ref_action *schedule,
              struct ref_counts *counts)
 {
-    struct buffers s = {{false}, {0}};
-    struct view view[REF_DISKS];
-    struct lookup l;
-    unsigned next_read = 0;
+    char letters[REF_DISKS];
+    struct run r;
 
     memset(counts, 0, sizeof *counts);
-    build_lookup(job, &l);
-    while (next_read < job->references) {
-        unsigned before = next_read;
-
-        survey(job, &s, &l, view);
-        for (unsigned d = 0; d < job->disks; d++) {
-            struct ref_action a = decide(job, &s, &l, rule, d, view[d]);
-
-            act(&s, d, a);
-            counts->fetches[d] += a.fetch != REF_NONE;
-            *schedule++ = a;
-        }
+    for (begin(job, &r); r.next_read < job->references; schedule += job->disks) {
+        play_round(job, rule, &r, schedule, letters);
+        for (unsigned d = 0; d < job->disks; d++)
+            counts->fetches[d] += schedule[d].fetch != REF_NONE;
         counts->rounds++;
-        next_read = consume(job, &s, next_read);
-        keep_up(job, &l, before, next_read);
     }
 }
 
@@ -313,31 +341,147 @@ static uint16_t choice(const struct ref_counts *counts)
 
 /* ---- Planning ---- */
 
+/* Both plans of a ticket, before anything is written. */
+struct drawn {
+    struct ref_job job;
+    struct ref_action schedule[2][REF_ROUNDS * REF_DISKS];  /* by rule */
+    struct ref_planned planned;
+};
+
+/* Reads the ticket and plans it; the number, with these rooms for the sheets. */
+static unsigned draw_up(const uint8_t *ticket, size_t n, const size_t *room, struct drawn *drawn)
+{
+    struct ref_planned *p = &drawn->planned;
+    unsigned number = ref_read_ticket(ticket, n, &drawn->job);
+
+    if (number != 0)
+        return number;
+    for (int k = 0; k < 2; k++) {
+        ref_run(&drawn->job, (enum ref_rule)k, drawn->schedule[k], &p->counts[k]);
+        p->sheet_length[k] = sheet_length(drawn->schedule[k],
+                                          (size_t)p->counts[k].rounds * drawn->job.disks);
+    }
+    for (unsigned k = 0; k < 2; k++)
+        if (p->sheet_length[k] > room[k])
+            return 17 + k;
+    p->mark = choice(p->counts);
+    p->length = (uint16_t)p->sheet_length[p->mark];
+    return 0;
+}
+
+/* "two buffers, one for each sheet, and both are written" */
+static void write_sheets(const struct drawn *drawn, uint8_t *const *buffer, const size_t *room)
+{
+    for (int k = 0; k < 2; k++)
+        ref_write_sheet(drawn->schedule[k], drawn->planned.counts[k].rounds, drawn->job.disks,
+                        buffer[k], room[k]);
+}
+
 unsigned ref_plan(const uint8_t *ticket, size_t n, uint8_t *p_min, size_t ns,
                   uint8_t *p_con, size_t np, struct ref_planned *out)
 {
-    struct ref_action schedule[2][REF_ROUNDS * REF_DISKS];
-    uint8_t *buffer[2] = {p_min, p_con};
-    size_t room[2] = {ns, np};
-    struct ref_planned p;
-    struct ref_job job;
-    unsigned number = ref_read_ticket(ticket, n, &job);
+    uint8_t *const buffer[2] = {p_min, p_con};
+    const size_t room[2] = {ns, np};
+    struct drawn drawn;
+    unsigned number = draw_up(ticket, n, room, &drawn);
 
     memset(out, 0, sizeof *out);
     if (number != 0)
         return number;
-    for (int k = 0; k < 2; k++) {
-        ref_run(&job, (enum ref_rule)k, schedule[k], &p.counts[k]);
-        p.sheet_length[k] = sheet_length(schedule[k], (size_t)p.counts[k].rounds * job.disks);
+    write_sheets(&drawn, buffer, room);
+    *out = drawn.planned;
+    return 0;
+}
+
+/* ---- The page ---- */
+
+/* A number, "right aligned" in so many columns. */
+static void put_number(uint8_t *to, unsigned columns, unsigned value)
+{
+    do {
+        to[--columns] = (uint8_t)('0' + value % 10);
+        value /= 10;
+    } while (value > 0);
+    while (columns > 0)
+        to[--columns] = ' ';
+}
+
+/* "3, right aligned, or ---" */
+static void put_block(uint8_t *to, uint16_t block)
+{
+    if (block == REF_NONE)
+        memcpy(to, "---", 3);
+    else
+        put_number(to, 3, block);
+}
+
+/* "round (4, right aligned), space, disk (1), space, fetched block ..., space, discarded block the
+ * same way, space, and the letter of the rule that gave the action" */
+static void put_line(uint8_t *line, unsigned round, unsigned d, struct ref_action a, char letter)
+{
+    memset(line, ' ', REF_LINE);
+    put_number(line, 4, round);
+    put_number(line + 5, 1, d);
+    put_block(line + 7, a.fetch);
+    put_block(line + 11, a.discard);
+    line[15] = (uint8_t)letter;
+    line[16] = '\n';
+}
+
+/* "Five legend lines of 16 columns close the page, in this order, filled with spaces and each ended
+ * by a line feed" */
+static void put_legend(uint8_t *line)
+{
+    static const char *const legend[REF_LEGEND] = {
+        "E empty slot", "M min-block out", "S used sooner", "W waits", "N none left"
+    };
+
+    for (unsigned k = 0; k < REF_LEGEND; k++, line += REF_LINE) {
+        memset(line, ' ', REF_LINE);
+        memcpy(line, legend[k], strlen(legend[k]));
+        line[REF_LINE - 1] = '\n';
     }
-    for (unsigned k = 0; k < 2; k++)
-        if (p.sheet_length[k] > room[k])
-            return 17 + k;
-    for (int k = 0; k < 2; k++)
-        ref_write_sheet(schedule[k], p.counts[k].rounds, job.disks, buffer[k], room[k]);
-    p.mark = choice(p.counts);
-    p.length = (uint16_t)p.sheet_length[p.mark];
-    *out = p;
+}
+
+/* "For the plan handed back, one line per round and disk" */
+static void write_page(const struct ref_job *job, enum ref_rule rule, uint8_t *page)
+{
+    struct ref_action actions[REF_DISKS];
+    char letters[REF_DISKS];
+    unsigned round = 0;
+    struct run r;
+
+    for (begin(job, &r); r.next_read < job->references;) {
+        play_round(job, rule, &r, actions, letters);
+        round++;
+        for (unsigned d = 0; d < job->disks; d++, page += REF_LINE)
+            put_line(page, round, d, actions[d], letters[d]);
+    }
+    put_legend(page);
+}
+
+/* "19, the page does not fit, tested after 18" */
+unsigned ref_page(const uint8_t *ticket, size_t n, uint8_t *p_min, size_t ns,
+                  uint8_t *p_con, size_t np, uint8_t *page, size_t ng, struct ref_paged *out)
+{
+    uint8_t *const buffer[2] = {p_min, p_con};
+    const size_t room[2] = {ns, np};
+    struct drawn drawn;
+    unsigned number = draw_up(ticket, n, room, &drawn);
+    enum ref_rule rule;
+    size_t length;
+
+    memset(out, 0, sizeof *out);
+    if (number != 0)
+        return number;
+    rule = (enum ref_rule)drawn.planned.mark;
+    length = ((size_t)drawn.planned.counts[rule].rounds * drawn.job.disks + REF_LEGEND) * REF_LINE;
+    if (length > ng)
+        return 19;
+    write_sheets(&drawn, buffer, room);
+    write_page(&drawn.job, rule, page);
+    out->planned = drawn.planned;
+    out->length = length;
     return 0;
 }
 

@@ -1,7 +1,7 @@
-/* reference.h - the planner of document 01 with request L1, written from the papers alone.
+/* reference.h - the planner of document 01 with requests L1 and L2, written from the papers alone.
  *
  * A reference to compare others with: tables and plain passes over the blocks, nothing clever.
- * Every answer "number" is 0, or the number of the refusal in document 01. */
+ * Every answer "number" is 0, or the number of the refusal in documents 01 and 02. */
 #ifndef REFERENCE_H
 #define REFERENCE_H
 
@@ -16,6 +16,9 @@ enum {
     REF_ROUNDS = 2048,
     REF_TICKET = 2507,         /* "The longest ticket has 2,507 bytes, */
     REF_SHEET = 40962,         /*  the longest sheet 40,962." */
+    REF_LINE = 17,             /* a line of a page: "16 columns and a line feed" */
+    REF_LEGEND = 5,            /* "Five legend lines ... close the page" */
+    REF_PAGE = (REF_ROUNDS * REF_DISKS + REF_LEGEND) * REF_LINE,  /* the longest page: 278,613 */
     REF_NONE = 0xffff,         /* no block */
     REF_PLANNED_NUMBERS = 20,  /* mark, part length, then 9 for each plan */
     REF_CHECKED_NUMBERS = 9,   /* rounds and eight fetch counts */
@@ -48,6 +51,11 @@ struct ref_planned {
     size_t sheet_length[2];            /* by rule */
 };
 
+struct ref_paged {
+    struct ref_planned planned;
+    size_t length;                     /* the page's */
+};
+
 struct ref_chosen {
     uint16_t which, length;            /* the sheet handed back: 0 first, 1 second; how long */
 };
@@ -68,6 +76,11 @@ void ref_run(const struct ref_job *job, enum ref_rule rule, struct ref_action *s
 /* Planning: writes both sheets, or nothing if refused; then all of out is 0. */
 unsigned ref_plan(const uint8_t *ticket, size_t n, uint8_t *p_min, size_t ns,
                   uint8_t *p_con, size_t np, struct ref_planned *out);
+
+/* Planning with a page: writes both sheets and the page of the plan handed back, or nothing if
+ * refused; then all of out is 0. */
+unsigned ref_page(const uint8_t *ticket, size_t n, uint8_t *p_min, size_t ns,
+                  uint8_t *p_con, size_t np, uint8_t *page, size_t ng, struct ref_paged *out);
 
 /* The check; all of out is 0 if refused. */
 unsigned ref_check(const uint8_t *ticket, size_t n, const uint8_t *sheet, size_t m,

@@ -11,7 +11,7 @@ use Rattle.lookup.proofs.Rows.{row-other, row-same}
 use Rattle.choosing.specs.Moving.{Ahead, moveFrom, movedOn}
 use Rattle.choosing.proofs.PointerRight.{Moved, moved-row, moved-laters, moved-looks, moved-rows, moved-moved, moved-stops}
 use Rattle.choosing.specs.declared.Choice.{Choice}
-use Rattle.acting.specs.Acting.{fetchNoted, discardNoted, reasonOf, column, noted, takenIn}
+use Rattle.acting.specs.Acting.{fetchNoted, discardNoted, reasonNoted, column, noted, takenIn}
 
 -- The desk after block u was taken in at a place of disk d: its rows, and where the pointer stops.
 pub record RowsAfter (refs : List ℕ) (resident : List Bool) (steps : List (List ℕ)) (d u place : ℕ) (desk after : List (List ℕ)) : Type 0 where
@@ -67,6 +67,14 @@ module _ (acts : List (List ℕ)) (d fetched discarded reason : ℕ) (rows : len
       ∙ row-same (withCell acts 0 d fetched) 1 d discarded (let l = length-set acts 0 (set (row acts 0) d fetched) in omega (arith, rows, l))
       ∙ ap (λ (l : List ℕ). set l d discarded) (row-other acts 0 1 d fetched (λ e. omega (arith, e)))
 
+  pub column-reason : row (column acts d fetched discarded reason) 2 ≡ set (row acts 2) d reason
+  column-reason =
+      let two = length-set (withCell acts 0 d fetched) 1 (set (row (withCell acts 0 d fetched) 1) d discarded) in
+      let one = length-set acts 0 (set (row acts 0) d fetched) in
+      row-same (withCell (withCell acts 0 d fetched) 1 d discarded) 2 d reason (omega (arith, rows, one, two))
+      ∙ ap (λ (l : List ℕ). set l d reason) (row-other (withCell acts 0 d fetched) 1 2 d discarded (λ e. omega (arith, e))
+      ∙ row-other acts 0 2 d fetched (λ e. omega (arith, e)))
+
   pub column-rows : length (column acts d fetched discarded reason) ≡ 3
   column-rows =
       length-set (withCell (withCell acts 0 d fetched) 1 d discarded) 2 _
@@ -74,10 +82,10 @@ module _ (acts : List (List ℕ)) (d fetched discarded reason : ℕ) (rows : len
 
 -- the column of a choice whose case is known
 module _ (d : ℕ) (desk acts : List (List ℕ)) where
-  pub noted-is : {c x : Choice} {after : List (List ℕ)} → c ≡ x → after ≡ column acts d (fetchNoted x) (discardNoted desk x) (reasonOf x)
+  pub noted-is : {c x : Choice} {after : List (List ℕ)} → c ≡ x → after ≡ column acts d (fetchNoted x) (discardNoted desk x) (reasonNoted desk x)
       → after ≡ noted d c desk acts
   unfolding noted
-  noted-is e h = h ∙ ap (λ (y : Choice). column acts d (fetchNoted y) (discardNoted desk y) (reasonOf y)) (sym e)
+  noted-is e h = h ∙ ap (λ (y : Choice). column acts d (fetchNoted y) (discardNoted desk y) (reasonNoted desk y)) (sym e)
 
 -- the desk with a block at its place, and the pointer moved on from there
 pub taken-is : (refs : List ℕ) (resident : List Bool) (steps : List (List ℕ)) (d u place : ℕ) (desk first after : List (List ℕ))

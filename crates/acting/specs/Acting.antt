@@ -2,7 +2,9 @@
 use mathlib.Core.Bool.{Bool}
 use mathlib.Core.List.{List}
 use Prim.Native.Nat.{ℕ, _<_}
-use Rattle.lookup.specs.Desk.{HELD, cell, withCell}
+use Rattle.model.specs.Page.{reason}
+use Rattle.lookup.specs.Desk.{HELD, cell, withCell, helds}
+use Rattle.choosing.specs.Choosing.{meaning}
 use Rattle.choosing.specs.Moving.{movedOn}
 use Rattle.writing.specs.Writing.{FETCHED, DISCARDED, REASON}
 use Rattle.choosing.specs.declared.Choice.{Choice}
@@ -31,13 +33,9 @@ discardNoted desk MinBlockSooner = 512
 discardNoted desk Waits = 512
 discardNoted desk NoneMissing = 512
 
--- The reason: an empty slot, over the min-block, the min-block is sooner, waits, none is missing. Request L2 will print the letters E, M, S, W, N.
-abbrev pub reasonOf : Choice → ℕ
-reasonOf (IntoEmpty u place) = 0
-reasonOf (OverMinBlock u place) = 1
-reasonOf MinBlockSooner = 2
-reasonOf Waits = 3
-reasonOf NoneMissing = 4
+-- The reason, as the place of its line in the legend of a page.
+abbrev pub reasonNoted : List (List ℕ) → Choice → ℕ
+reasonNoted desk c = reason (meaning (helds desk) c)
 
 -- A round's actions with another column for disk d,
 abbrev pub column : List (List ℕ) → ℕ → ℕ → ℕ → ℕ → List (List ℕ)
@@ -45,7 +43,7 @@ column acts d fetched discarded reason = withCell (withCell (withCell acts FETCH
 
 -- that of its choice.
 unfoldable pub noted : ℕ → Choice → List (List ℕ) → List (List ℕ) → List (List ℕ)
-noted d c desk acts = column acts d (fetchNoted c) (discardNoted desk c) (reasonOf c)
+noted d c desk acts = column acts d (fetchNoted c) (discardNoted desk c) (reasonNoted desk c)
 
 -- Block u stands at a place among the residents of disk d, and the disk's pointer moves on.
 unfoldable pub takenIn : List ℕ → List Bool → List (List ℕ) → ℕ → ℕ → ℕ → List (List ℕ) → List (List ℕ)

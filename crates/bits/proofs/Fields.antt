@@ -180,6 +180,21 @@ length-laid zero (x ∷ s) (y ∷ lent) = ap suc (length-laid zero s lent)
 length-laid (suc k) s [] = ap length (laid-empty s)
 length-laid (suc k) s (y ∷ lent) = ap suc (length-laid k s lent)
 
+-- where there is room for it, a string is written whole
+pub laid-over : (s lent : List ℕ) → length s ≤ length lent → laid s lent ≡ over s lent
+unfolding laid over
+laid-over [] lent h = refl
+laid-over (x ∷ s) [] h = absurd (omega arith)
+laid-over (x ∷ s) (y ∷ lent) h = ap (λ (l : List ℕ). x ∷ l) (laid-over s lent (omega arith))
+
+-- one byte is a store
+pub laid-byte : (k b : ℕ) (lent : List ℕ) → laidAt k (b ∷ []) lent ≡ set lent k b
+unfolding laidAt laid
+laid-byte zero b [] = refl
+laid-byte zero b (y ∷ lent) = refl
+laid-byte (suc k) b [] = refl
+laid-byte (suc k) b (y ∷ lent) = ap (λ (l : List ℕ). y ∷ l) (laid-byte k b lent)
+
 -- two bytes are two stores; one past the end changes nothing
 laid-stores : (k x y : ℕ) (lent : List ℕ) → laidAt k (x ∷ y ∷ []) lent ≡ set (set lent k x) (suc k) y
 unfolding laidAt

@@ -1,15 +1,18 @@
 // The vectors' calls, made through the planner's public calls. Standard input has a call on each line, `plan TICKET ROOM ROOM`,
-// `check TICKET SHEET` or `choose TICKET SHEET SHEET`, with bytes in hexadecimal and `-` for none; other lines are comments. Standard output has the
-// same lines, each call followed by ` = ` and what it gives, in the vectors' form.
+// `page TICKET ROOM ROOM ROOM`, `check TICKET SHEET` or `choose TICKET SHEET SHEET`, with bytes in hexadecimal and `-` for none; other lines are
+// comments. Standard output has the same lines, each call followed by ` = ` and what it gives, in the vectors' form.
 use libc::STDIN_FILENO;
 use libc::STDOUT_FILENO;
 use planner::Counts;
 use planner::Mark;
+use planner::Planned;
 use planner::Which;
+ghost use mathlib.Core.Path.{_≡_};
 ghost use Prim.Native.Nat.{_≤_, _<_};
+ghost use lib.ListN.{length};
 ghost use Rattle.io.specs.Counts.{Counts as Within};
 
-// What both lent buffers are filled with before a call.
+// What the lent buffers are filled with before a call.
 const FILL: u8 = 165;
 
 fn write(text: &[u8]) {
@@ -86,7 +89,7 @@ fn read_bytes(out: &mut [u8]) -> usize
 // Reads a decimal number of at most six digits, and the byte that ends it.
 fn read_number() -> usize {
     let mut n = 0;
-    let mut left: usize = 6;
+    let mut left: usize = 7;
     while left > 0 {
         let d = digit(next());
         if d > 9 {
@@ -174,10 +177,9 @@ fn write_left(rounds: usize, fetches: [u16; 8]) {
     }
 }
 
-// Plans a ticket into two filled buffers. After a refusal they are as they were filled, the part is empty and all counts are 0, so nothing of them is
+// What planning gave, and both buffers. After a refusal they are as they were filled, the part is empty and all counts are 0, so nothing of them is
 // written.
-fn plan_into(ticket: &[u8], short: &mut [u8], sparing: &mut [u8]) {
-    let p = planner::plan(ticket, short, sparing);
+fn write_planned<'a>(p: Planned, short: &'a [u8], sparing: &'a [u8]) {
     write_number(p.number);
     let part = planner::part(short, sparing, p);
     let a = p.short;
@@ -205,6 +207,27 @@ fn plan_into(ticket: &[u8], short: &mut [u8], sparing: &mut [u8]) {
     write_bytes(changed(sparing));
 }
 
+// Plans a ticket into two filled buffers.
+fn plan_into(ticket: &[u8], short: &mut [u8], sparing: &mut [u8]) {
+    let p = planner::plan(ticket, short, sparing);
+    write_planned(p, short, sparing);
+}
+
+// Plans a ticket into three filled buffers. After a refusal the page's length is 0 and its buffer as it was filled, so nothing of it is written.
+fn page_into(ticket: &[u8], short: &mut [u8], sparing: &mut [u8], page: &mut [u8]) {
+    let g = planner::plan_with_page(ticket, short, sparing, page);
+    let p = g.planned;
+    write_planned(p, short, sparing);
+    if p.number == 0 {
+        write(b" |");
+    }
+    if p.number == 0 || g.length != 0 {
+        write_number(g.length);
+        write(b" ");
+    }
+    write_bytes(changed(page));
+}
+
 // As many bytes of a buffer as there are, at most n.
 fn within(n: usize, lent: &[u8]) -> usize
     ensures { λ r. ⌜ Within r (now (lent .entry)) ⌝ }
@@ -225,6 +248,32 @@ fn plan_line() {
     let b = within(read_number(), &sparing);
     write(b" =");
     plan_into(&ticket[..n], &mut short[..a], &mut sparing[..b]);
+}
+
+// A filled buffer with more bytes than the longest page.
+fn page_buffer() -> [u8; 278630]
+    ensures { λ r. ⌜ 278630 ≡ length r ⌝ }
+{
+    [FILL; 278630]
+}
+
+// A line `page`.
+fn page_line() {
+    let mut ticket = io::buffer();
+    let n = read_bytes(&mut ticket);
+    let mut short = [FILL; 40962];
+    let mut sparing = [FILL; 40962];
+    let mut page = page_buffer();
+    let a = within(read_number(), &short);
+    let b = within(read_number(), &sparing);
+    let c = within(read_number(), &page);
+    write(b" =");
+    page_into(
+        &ticket[..n],
+        &mut short[..a],
+        &mut sparing[..b],
+        &mut page[..c],
+    );
 }
 
 // A line `check`.
@@ -274,6 +323,17 @@ fn choose_line() {
     choose_between(&ticket[..n], &first[..m], &second[..k]);
 }
 
+// A line `plan` or `page`, after its first letter; the second tells them apart.
+fn planning_line() {
+    let second = next();
+    skip(b' ');
+    if second == b'a' {
+        page_line();
+    } else {
+        plan_line();
+    }
+}
+
 // A line `check` or `choose`, after its first letter; the third tells them apart.
 fn sheet_line() {
     next();
@@ -293,8 +353,7 @@ fn line() -> bool {
         return false;
     }
     if b == b'p' {
-        skip(b' ');
-        plan_line();
+        planning_line();
     } else if b == b'c' {
         sheet_line();
     } else {

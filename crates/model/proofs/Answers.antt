@@ -1,15 +1,18 @@
 -- Document 01, "Jobs worked through": the jobs marked P as one table of calls and what each gives, with rows for the order in which the numbers
--- of a refusal are tested, which no theorem sees. "Cases marked P are proved together as one table over the definitions": each row ends in
--- the proof that its call gives what it says, by computation. Assumes nothing.
+-- of a refusal are tested, which no theorem sees, and for the calls of document 02. "Cases marked P are proved together as one table over the
+-- definitions": each row ends in the proof that its call gives what it says, by computation. Assumes nothing.
 use mathlib.Core.Path.{_≡_, refl}
-use mathlib.Core.List.{List, [], _∷_}
+use mathlib.Core.List.{List, [], _∷_, _++_, map}
 use Prim.Native.Nat.{ℕ, zero, suc, _/_, _%_, _^_}
+use Prim.Native.String.{String}
 use Rattle.bits.specs.Reading.{Answer, given, refused, bind, _>>=_, _>>_, give, field, refuseIf, many, isClosed, closing, answer, readAll}
 use Rattle.model.specs.Job.{Job}
 use Rattle.model.specs.Ticket.{slotsField, diskField, refField, ticketReader, ticketOf}
 use Rattle.model.specs.Playing.{noneResident, load, play}
+use Rattle.model.specs.Text.{text}
+use Rattle.model.specs.Page.{ended}
 use Rattle.model.specs.Sheet.{discardReader, fetchReader, actionReader, roundReader, roundsReader, sheetReader, scheduleRead}
-use Rattle.model.specs.Calls.{Counts, Which, isFirst, isSecond, Mark, isShort, isSparing, Planned, planAnswer, checkAnswer, ChosenSheet, chooseAnswer, countsNumbers, planningNumbers, choiceNumbers, countsWritten}
+use Rattle.model.specs.Calls.{Counts, Which, isFirst, isSecond, Mark, isShort, isSparing, Planned, planAnswer, pageAnswer, checkAnswer, ChosenSheet, chooseAnswer, countsNumbers, planningNumbers, choiceNumbers, countsWritten}
 
 -- The k bytes whose hexadecimal digits are those of v: `hex 2 0x0018` is 00 18.
 unfoldable pub hex : ℕ → ℕ → List ℕ
@@ -17,11 +20,13 @@ hex zero v = []
 hex (suc k) v = (v / 256 ^ k % 256) ∷ hex k v
 
 -- A call, and what a call gives. `planInto` plans a ticket into two buffers of the lengths that it is given, `plan` into two of the longest sheet's
--- 40,962 bytes. A call from C, whose last bytes are a slice for its counts, gives what the slice then has.
+-- 40,962 bytes; `page` plans it with a third buffer, and shows the page. A call from C, whose last bytes are a slice for its counts, gives what the
+-- slice then has.
 pub data Call : Type 0 where
   read : List ℕ → Call
   plan : List ℕ → Call
   planInto : List ℕ → ℕ → ℕ → Call
+  page : List ℕ → ℕ → ℕ → ℕ → Call
   check : List ℕ → List ℕ → Call
   choose : List ℕ → List ℕ → List ℕ → Call
   planFromC : List ℕ → List ℕ → Call
@@ -31,6 +36,7 @@ pub data Call : Type 0 where
 pub data Outcome : Type 0 where
   job : Job → Outcome
   plans : Planned → Outcome
+  shows : List ℕ → Outcome
   passes : Counts → Outcome
   hands : ChosenSheet → Outcome
   writes : List ℕ → Outcome
@@ -41,10 +47,11 @@ outcomeOf f (given a) = f a
 outcomeOf f (refused n) = number n
 
 unfoldable pub outcome : Call → Outcome
-unfolding outcomeOf ticketOf planAnswer checkAnswer chooseAnswer countsWritten
+unfolding outcomeOf ticketOf planAnswer pageAnswer checkAnswer chooseAnswer countsWritten
 outcome (read t) = outcomeOf job (ticketOf t)
 outcome (plan t) = outcomeOf plans (planAnswer t 40962 40962)
 outcome (planInto t room₁ room₂) = outcomeOf plans (planAnswer t room₁ room₂)
+outcome (page t room₁ room₂ room₃) = outcomeOf (λ p. shows (p .page)) (pageAnswer t room₁ room₂ room₃)
 outcome (check t s) = outcomeOf passes (checkAnswer t s)
 outcome (choose t first second) = outcomeOf hands (chooseAnswer t first second)
 outcome (planFromC t lent) = writes (countsWritten planningNumbers (planAnswer t 40962 40962) lent)
@@ -68,6 +75,10 @@ counts r a b = record { rounds = r; fetches = a ∷ b ∷ 0 ∷ 0 ∷ 0 ∷ 0 �
 
 abbrev planned : Mark → ℕ → Counts → Counts → List ℕ → List ℕ → Outcome
 planned m n a b s t = plans (record { mark = m; partLength = n; short = a; sparing = b; shortSheet = s; sparingSheet = t })
+
+-- a page of these lines, with the legend's
+abbrev pageWith : List String → Outcome
+pageWith lines = shows (ended (map text (lines ++ "E empty slot    " ∷ "M min-block out " ∷ "S used sooner   " ∷ "W waits         " ∷ "N none left     " ∷ [])))
 
 abbrev chose : Which → ℕ → Outcome
 chose w n = hands (record { which = w; sheetLength = n })
@@ -94,11 +105,76 @@ ticketF = hex 15 0x2020805009200e020180002020200c
 abbrev ticketG : List ℕ
 ticketG = hex 32 0x2060c080002490150000404040180002050301c0404028180001010100600008
 
+-- one disk, one slot, 101 blocks, string 100 10 100 10 .. of ten references
+abbrev ticketTen : List ℕ
+ticketTen = hex 54 0x10232800000000000000000000000000000000000000000000000000000000000000000000000000000a32028c80a32028c80a320280
+
+-- slots 2 and 1, blocks 0 to 2 and 3 to 5, string 3 4 5 0 1 2 1 0
+abbrev ticketBoth : List ℕ
+ticketBoth = hex 17 0x2040406001240200604028000202008000
+
+-- the lines of the pages of F, of G and of these two jobs
+abbrev linesF : List String
+linesF =
+    "   1 0   0 --- E" ∷
+    "   1 1   2 --- E" ∷
+    "   2 0 --- --- S" ∷
+    "   2 1   3 --- E" ∷
+    "   3 0   1   0 M" ∷
+    "   3 1 --- --- W" ∷
+    "   4 0 --- --- N" ∷
+    "   4 1   4   2 M" ∷
+    []
+
+abbrev linesG : List String
+linesG =
+    "   1 0   0 --- E" ∷
+    "   1 1   4 --- E" ∷
+    "   2 0   1 --- E" ∷
+    "   2 1   5 --- E" ∷
+    "   3 0   2 --- E" ∷
+    "   3 1   6 --- E" ∷
+    "   4 0   3   2 M" ∷
+    "   4 1   7   4 M" ∷
+    "   5 0   2   3 M" ∷
+    "   5 1   4   7 M" ∷
+    "   6 0   3   2 M" ∷
+    "   6 1 --- --- N" ∷
+    []
+
+abbrev linesBoth : List String
+linesBoth =
+    "   1 0   0 --- E" ∷
+    "   1 1   3 --- E" ∷
+    "   2 0   1 --- E" ∷
+    "   2 1   4   3 M" ∷
+    "   3 0 --- --- S" ∷
+    "   3 1   5   4 M" ∷
+    "   4 0   2   0 M" ∷
+    "   4 1 --- --- N" ∷
+    "   5 0   0   2 M" ∷
+    "   5 1 --- --- N" ∷
+    []
+
+abbrev linesTen : List String
+linesTen =
+    "   1 0 100 --- E" ∷
+    "   2 0  10 100 M" ∷
+    "   3 0 100  10 M" ∷
+    "   4 0  10 100 M" ∷
+    "   5 0 100  10 M" ∷
+    "   6 0  10 100 M" ∷
+    "   7 0 100  10 M" ∷
+    "   8 0  10 100 M" ∷
+    "   9 0 100  10 M" ∷
+    "  10 0  10 100 M" ∷
+    []
+
 -- Where two tests that follow each other can both refuse, a row says which one does. These cannot: 1 inside the last reference and 8; 10 and the end
 -- inside the first fetch bit, since a sheet has whole bytes; 11 for a block of B or more and 12, since no such block is ever in a buffer; 13
 -- and 14, since the discard bit selects one of them.
 pub table : List Case
-unfolding hex outcome _>>=_ _>>_ bind give field refuseIf many isClosed closing answer readAll slotsField diskField refField ticketReader ticketOf discardReader fetchReader actionReader roundReader roundsReader sheetReader scheduleRead play load noneResident
+unfolding hex outcome text ended _>>=_ _>>_ bind give field refuseIf many isClosed closing answer readAll slotsField diskField refField ticketReader ticketOf discardReader fetchReader actionReader roundReader roundsReader sheetReader scheduleRead play load noneResident
 table =
     -- A: "one disk, one slot, one block, string 0. Both sheets 00 18 00; 1 round; sparing"
     row (read ticketA) (jobWith (1 ∷ []) (0 ∷ []) (0 ∷ [])) refl ∷
@@ -242,6 +318,20 @@ table =
     row (choose ticketA (hex 2 0x0000) []) (number 15) refl ∷
     row (choose ticketA (hex 3 0x001801) (hex 3 0x001800)) (number 16) refl ∷
     row (choose ticketA (hex 3 0x001800) (hex 3 0x001801)) (number 16) refl ∷
+    -- Request L2: the page of the plan handed back, in a buffer of its exact length. B's, of no rounds, is the legend alone; F's, of the sparing plan,
+    -- has all five letters; G's is of the short plan: "Round 4, disk 0 of case G reads `   4 0   3   2 M`". The last has numbers of more digits.
+    row (page ticketB 2 2 85) (pageWith []) refl ∷
+    row (page ticketF 14 11 221) (pageWith linesF) refl ∷
+    row (page ticketG 23 23 289) (pageWith linesG) refl ∷
+    row (page ticketTen 26 26 255) (pageWith linesTen) refl ∷
+    -- "W idle because the sparing plan waits though S does not hold": in round 3 the sparing plan of disk 0 would wait too, and S is shown.
+    row (page ticketBoth 40962 40962 278613) (pageWith linesBoth) refl ∷
+    -- "19, the page does not fit, tested after 18": one byte less for the page. 17, 18 and the ticket's number come first, with no room for the page.
+    row (page ticketB 2 2 84) (number 19) refl ∷
+    row (page ticketF 14 11 220) (number 19) refl ∷
+    row (page ticketF 14 10 0) (number 18) refl ∷
+    row (page ticketF 13 11 0) (number 17) refl ∷
+    row (page (hex 7 0x10200800100000) 40962 40962 0) (number 8) refl ∷
     -- From C: "in 16 bits each and most significant byte first: for planning the mark (0 short, 1 sparing), the length of the part, then for the short
     -- and for the sparing plan the rounds and eight fetch counts; for the check the rounds and eight fetch counts", and by L1 "0 (first) or 1 (second)
     -- and that sheet's length". "As far as that slice reaches", and no byte more; "a refusal writes nothing there".

@@ -20,4 +20,7 @@ pub mod Written
 pub mod Validity
 pub mod Bytes
 pub mod TwoSheets
+pub mod Text
+pub mod Page
+pub mod PageCall
 pub mod Promises

@@ -1,5 +1,6 @@
--- Demand 1: a refused call has one of its numbers in document 01. Assumes nothing.
+-- Demand 1: a refused call has one of its numbers in documents 01 and 02. Assumes nothing.
 use mathlib.Core.Path.{_≡_, refl, sym, ap, _∙_}
+use mathlib.Core.Logic.{⊎-elim}
 use mathlib.Core.Bool.{Bool, true, false, cond, _&&_}
 use mathlib.Core.List.{List, [], _∷_, _++_}
 use Prim.Native.Nat.{ℕ, zero, suc, _+_, _*_, _≤_}
@@ -17,7 +18,8 @@ use Rattle.model.specs.Playing.{State, Schedule, start}
 use Rattle.model.specs.Rules.{short, sparing}
 use Rattle.model.specs.Plans.{each, scheduleOf}
 use Rattle.model.specs.Sheet.{discardReader, fetchReader, actionReader, roundReader, roundsReader, sheetReader, scheduleRead}
-use Rattle.model.specs.Calls.{Planned, ticketNumbers, sheetNumbers, roomNumbers, checkRefusals, planRefusals, among, passOf, checkFor, checkAnswer, plannedOf, withRooms, plannedFor, planAnswer}
+use Rattle.model.specs.Calls.{Planned, ticketNumbers, sheetNumbers, roomNumbers, checkRefusals, planRefusals, pageRefusals, among, passOf, checkFor, checkAnswer, plannedOf, withRooms, plannedFor, planAnswer, pageAnswer}
+use Rattle.model.proofs.PageCall.{page-refusals}
 
 -- Where a reader stops, its number is one of a list.
 record Numbered {A : Type 0} (ns : List ℕ) (r : Reader A) : Type 0 where
@@ -206,6 +208,12 @@ plan-number t a b n e = go (ticketOf t) refl e
     go (given j) q h = among-right n ticketNumbers roomNumbers (rooms-number a b n (plannedOf (scheduleOf short j) (scheduleOf sparing j)) h)
     go (refused m) q h = among-left n ticketNumbers roomNumbers (ticket-number t n (q ∙ refused-same h))
 
+-- a page's own number comes after those of planning
+pub page-number : (t : List ℕ) (a b c n : ℕ) → pageAnswer t a b c ≡ refused n → among n pageRefusals ≡ true
+unfolding among each
+page-number t a b c n e =
+    ⊎-elim (λ h. among-left n planRefusals (19 ∷ []) (plan-number t a b n h)) (λ h. rw (h .0)) (page-refusals t a b c n .0 e)
+
 -- so no number of a refused call is 0, and each is small
 pub ticket-within : (t : List ℕ) (n : ℕ) → ticketOf t ≡ refused n → (1 ≤ n) × (n ≤ 8)
 unfolding withinAll each
@@ -218,3 +226,7 @@ check-within t s n e = among-within 1 16 n checkRefusals refl (check-number t s 
 pub plan-within : (t : List ℕ) (a b n : ℕ) → planAnswer t a b ≡ refused n → (1 ≤ n) × (n ≤ 18)
 unfolding withinAll each
 plan-within t a b n e = among-within 1 18 n planRefusals refl (plan-number t a b n e)
+
+pub page-within : (t : List ℕ) (a b c n : ℕ) → pageAnswer t a b c ≡ refused n → (1 ≤ n) × (n ≤ 19)
+unfolding withinAll each
+page-within t a b c n e = among-within 1 19 n pageRefusals refl (page-number t a b c n e)

@@ -1,29 +1,34 @@
--- All that is promised of tickets and sheets, over bytes, in the terms of documents 01 and 02. Each promise is closed by one citation. `ticketOf`,
--- `checkAnswer`, `planAnswer` and `chooseAnswer` (specs/Ticket.antt, specs/Calls.antt) say what the papers' calls give for any bytes: `given` a value,
--- or `refused` with a number. The code is tied to them by its contracts, which are equations with these definitions for every input: `planner::check`
--- returns `checkAnswer`, `planner::plan` returns and writes `planAnswer`, `planner::part` gives `partOf`, `planner::choose` returns `chooseAnswer`,
--- `planner::chosen_sheet` gives `sheetHanded` (crates/planner/src/lib.rt). Assumes nothing.
+-- All that is promised of tickets, sheets and pages, over bytes, in the terms of documents 01 and 02. Each promise is closed by one citation.
+-- `ticketOf`, `checkAnswer`, `planAnswer`, `chooseAnswer` and `pageAnswer` (specs/Ticket.antt, specs/Calls.antt) say what the papers' calls give for
+-- any bytes: `given` a value, or `refused` with a number. The code is tied to them by its contracts, which are equations with these definitions for
+-- every input: `planner::check` returns `checkAnswer`, `planner::plan` returns and writes `planAnswer`, `planner::part` gives `partOf`,
+-- `planner::choose` returns `chooseAnswer`, `planner::chosen_sheet` gives `sheetHanded`, `planner::plan_with_page` returns and writes `pageAnswer`
+-- (crates/planner/src/lib.rt). Assumes nothing.
 use mathlib.Core.Path.{_≡_}
 use mathlib.Core.Logic.{_↔_, _⊎_}
 use mathlib.Core.Bool.{true}
-use mathlib.Core.List.{List, []}
+use mathlib.Core.List.{List, [], _∷_, _++_}
 use mathlib.Core.Option.{none, some}
-use Prim.Native.Nat.{ℕ, suc, _≤_, _<_, _^_}
-use lib.ListN.{length, take, replicate}
+use Prim.Native.Nat.{ℕ, suc, _+_, _*_, _≤_, _<_, _^_}
+use lib.ListN.{length, getD, take, drop, replicate}
 use Rattle.bits.specs.Bits.{pack}
 use Rattle.bits.specs.Reading.{given, refused}
-use Rattle.model.specs.Job.{Job, Sound, refCount}
+use Rattle.model.specs.Job.{Job, Sound, diskCount, refCount}
 use Rattle.model.specs.Ticket.{ticketBits, ticketOf}
 use Rattle.model.specs.Playing.{replace, Schedule, start, play, rounds}
-use Rattle.model.specs.Rules.{short, sparing}
-use Rattle.model.specs.Plans.{scheduleOf}
+use Rattle.model.specs.Rules.{overMinBlock, short, sparing}
+use Rattle.model.specs.Plans.{scheduleOf, stateAfter}
+use Rattle.model.specs.Text.{text}
+use Rattle.model.specs.Page.{letter, lineOf, legend, ended, pageOf}
 use Rattle.model.specs.Sheet.{sheetOf}
 use Rattle.model.specs.Valid.{ValidTicket, ValidSheet}
-use Rattle.model.specs.Calls.{Counts, countsOf, fetchesOn, AllZero, shortCounts, sparingCounts, isSecond, ofTwo, isSparing, Planned, handed, handedCounts, planAnswer, shortAfter, sparingAfter, returned, partAfter, checkAnswer, countsGiven, ChosenSheet, chosenOf, chooseAnswer, returnedChoice, sheetAfter, checkRefusals, planRefusals, among, countsNumbers, planningNumbers, choiceNumbers, countsWritten}
+use Rattle.model.specs.Calls.{Counts, countsOf, fetchesOn, AllZero, shortCounts, sparingCounts, isSecond, ofTwo, isSparing, chosen, Planned, handed, handedCounts, planAnswer, shortAfter, sparingAfter, returned, partAfter, PlannedPage, planHanded, pageAnswer, planGiven, pageLength, pageAfter, checkAnswer, countsGiven, ChosenSheet, chosenOf, chooseAnswer, returnedChoice, sheetAfter, checkRefusals, planRefusals, pageRefusals, among, countsNumbers, planningNumbers, choiceNumbers, countsWritten}
 use Rattle.model.proofs.Choosing.{short-lawful, sparing-lawful}
 use Rattle.model.proofs.Ticket
 use Rattle.model.proofs.Bytes
 use Rattle.model.proofs.TwoSheets
+use Rattle.model.proofs.Page
+use Rattle.model.proofs.PageCall
 use Rattle.model.proofs.Refusals
 use Rattle.model.proofs.Longest
 
@@ -188,3 +193,68 @@ short-first = TwoSheets.short-first
 -- The length that is given, and written from C, needs no more than 16 bits.
 pub chosen-length : (t first second : List ℕ) (c : ChosenSheet) → chooseAnswer t first second ≡ given c → c .sheetLength < 2 ^ 16
 chosen-length = TwoSheets.chosen-length
+
+-- 6. Request L2, the page of the plan handed back. "The page comes from a planning call that is lent a third buffer for it and writes both sheets as
+-- before": the call gives something exactly if planning does and the page of the plan handed back (`pageOf`, specs/Page.antt) fits its buffer; it
+-- gives what planning gives, and that page.
+pub page-exactly : (t : List ℕ) (room₁ room₂ room₃ : ℕ) (p : PlannedPage) → (pageAnswer t room₁ room₂ room₃ ≡ given p)
+    ↔ ((j : Job) × (ticketOf t ≡ given j) × (planAnswer t room₁ room₂ ≡ given (p .planned)) × (p .page ≡ pageOf (planHanded (p .planned .mark) j)) × (length (p .page) ≤ room₃))
+page-exactly = PageCall.page-exactly
+
+-- "Turned away: 19, the page does not fit, tested after 18": it is refused with n exactly if planning is, or if n is 19, planning is not refused, and
+-- the page is longer than its buffer.
+pub page-refusals : (t : List ℕ) (room₁ room₂ room₃ n : ℕ) → (pageAnswer t room₁ room₂ room₃ ≡ refused n)
+    ↔ ((planAnswer t room₁ room₂ ≡ refused n)
+    ⊎ ((n ≡ 19) × (j : Job) × (p : Planned) × (ticketOf t ≡ given j) × (planAnswer t room₁ room₂ ≡ given p) × (room₃ < length (pageOf (planHanded (p .mark) j)))))
+page-refusals = PageCall.page-refusals
+
+-- A refused call with a page gives one of 1 to 8, 17, 18 and 19, and each of these is given for some bytes and rooms.
+pub page-numbers : (n : ℕ) → (among n pageRefusals ≡ true) ↔ ((t : List ℕ) × (room₁ : ℕ) × (room₂ : ℕ) × (room₃ : ℕ) × (pageAnswer t room₁ room₂ room₃ ≡ refused n))
+page-numbers = Refusals.page-numbers
+
+-- It returns and writes what a refused planning call does (`plan-refused`), no page's length, and no byte of the page's buffer.
+pub page-refused : (n : ℕ) (lent : List ℕ) → (planGiven (refused n) ≡ refused n) × (pageLength (refused n) ≡ 0) × (pageAfter (refused n) lent ≡ lent)
+page-refused = Refusals.page-refused
+
+-- "The page's length is returned too, and bytes past it stay": a call that is not refused returns and writes what planning does (`plan-given`), and the
+-- page's length; the page's buffer then begins with the page, and goes on with the bytes that it had.
+pub page-given : (t lent : List ℕ) (room₁ room₂ : ℕ) (p : PlannedPage) → pageAnswer t room₁ room₂ (length lent) ≡ given p
+    → (planGiven (given p) ≡ given (p .planned))
+    × (pageLength (given p) ≡ length (p .page))
+    × (length (pageAfter (given p) lent) ≡ length lent)
+    × (take (pageLength (given p)) (pageAfter (given p) lent) ≡ p .page)
+    × (drop (pageLength (given p)) (pageAfter (given p) lent) ≡ drop (pageLength (given p)) lent)
+page-given = PageCall.page-given
+
+-- "For the plan handed back, one line per round and disk, 16 columns and a line feed": the line of round r + 1 and disk d is at its place, and shows
+-- what the plan's rule chooses at the start of that round. "Five legend lines of 16 columns close the page": after the lines comes the legend alone.
+pub page-lines : (t : List ℕ) (j : Job) (room₁ room₂ room₃ : ℕ) (p : PlannedPage) → ticketOf t ≡ given j → pageAnswer t room₁ room₂ room₃ ≡ given p
+    → (let rule = chosen (p .planned .mark) short sparing in
+    let n = handedCounts (p .planned) .rounds in
+    ((r d : ℕ) → r < n → d < diskCount j → take 17 (drop ((r * diskCount j + d) * 17) (p .page)) ≡ lineOf (suc r) d (rule j (stateAfter rule j r) d))
+    × (drop (n * diskCount j * 17) (p .page) ≡ ended legend))
+page-lines = PageCall.page-lines
+
+-- "Every letter on a page is the one the plan's rule gives": the last of the line's 16 columns.
+pub page-letters : (t : List ℕ) (j : Job) (room₁ room₂ room₃ : ℕ) (p : PlannedPage) → ticketOf t ≡ given j → pageAnswer t room₁ room₂ room₃ ≡ given p
+    → (let rule = chosen (p .planned .mark) short sparing in
+    (r d : ℕ) → r < handedCounts (p .planned) .rounds → d < diskCount j
+    → getD (p .page) ((r * diskCount j + d) * 17 + 15) 0 ≡ letter (rule j (stateAfter rule j r) d))
+page-letters = PageCall.page-letters
+
+-- The line of the last round, the last disk and the last block that there can be.
+pub widest-line : lineOf 2048 7 (overMinBlock 511 0) ≡ text "2048 7 511   0 M" ++ 10 ∷ []
+widest-line = Page.widest-line
+
+-- A page has 17 bytes for each round and disk and 85 for the legend, so at most 278,613; a page of 2,048 rounds of eight disks has so many.
+pub page-length : (t : List ℕ) (j : Job) (room₁ room₂ room₃ : ℕ) (p : PlannedPage) → ticketOf t ≡ given j → pageAnswer t room₁ room₂ room₃ ≡ given p
+    → (length (p .page) ≡ handedCounts (p .planned) .rounds * diskCount j * 17 + 85) × (length (p .page) ≤ 278613)
+page-length = PageCall.page-length
+
+pub page-longest : length (pageOf (replicate 2048 (replicate 8 (overMinBlock 1 0)))) ≡ 278613
+page-longest = Page.page-longest
+
+-- Where the buffers hold the longest sheet and the longest page, no accepted ticket is refused.
+pub page-fits : (t : List ℕ) (j : Job) (room₁ room₂ room₃ : ℕ) → ticketOf t ≡ given j → 40962 ≤ room₁ → 40962 ≤ room₂ → 278613 ≤ room₃
+    → (p : PlannedPage) × (pageAnswer t room₁ room₂ room₃ ≡ given p)
+page-fits = PageCall.page-fits

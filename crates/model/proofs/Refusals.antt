@@ -1,8 +1,8 @@
--- Demand 1: each of a call's numbers in document 01 is given for some bytes, and what a refused call returns and writes. Assumes nothing.
+-- Demand 1: each of a call's numbers in documents 01 and 02 is given for some bytes, and what a refused call returns and writes. Assumes nothing.
 use mathlib.Core.Path.{_≡_, refl, sym, subst}
-use mathlib.Core.Logic.{_↔_}
+use mathlib.Core.Logic.{_↔_, inl}
 use mathlib.Core.Bool.{true}
-use mathlib.Core.List.{List, [], _∷_}
+use mathlib.Core.List.{List, [], _∷_, _++_}
 use mathlib.Core.Option.{none}
 use Prim.Native.Nat.{ℕ}
 use lib.Dec.{eqb}
@@ -13,8 +13,9 @@ use Rattle.model.specs.Ticket.{slotsField, diskField, refField, ticketRe
 use Rattle.model.specs.Playing.{noneResident, start, load, play}
 use Rattle.model.specs.Plans.{each}
 use Rattle.model.specs.Sheet.{discardReader, fetchReader, actionReader, roundReader, roundsReader, sheetReader, scheduleRead}
-use Rattle.model.specs.Calls.{noCounts, AllZero, planAnswer, written, shortAfter, sparingAfter, returned, partAfter, checkAnswer, countsGiven, chooseAnswer, returnedChoice, sheetAfter, checkRefusals, planRefusals, among, countsNumbers, planningNumbers, choiceNumbers, countsWritten}
-use Rattle.model.proofs.Numbers.{check-number, plan-number}
+use Rattle.model.specs.Calls.{noCounts, AllZero, planAnswer, written, shortAfter, sparingAfter, returned, partAfter, pageAnswer, planGiven, pageLength, pageAfter, checkAnswer, countsGiven, chooseAnswer, returnedChoice, sheetAfter, checkRefusals, planRefusals, pageRefusals, among, countsNumbers, planningNumbers, choiceNumbers, countsWritten}
+use Rattle.model.proofs.PageCall.{page-refusals}
+use Rattle.model.proofs.Numbers.{check-number, plan-number, page-number}
 use Rattle.model.proofs.TwoSheets.{first-refused, choose-number}
 use Rattle.model.proofs.Answers.{hex}
 
@@ -32,12 +33,20 @@ all-among {Q} (_⊳_ {n = m} q more) n e =
     (λ y. subst Q (sym (eqb-true n m y)) q)
     (λ y. all-among more n (rw y at e))
 
--- bytes for which a check is refused with n, and bytes and rooms for which a planning call is
+-- and, from something for each number of a list, for each number of two
+all-then : {Q R : ℕ → Type 0} {l m : List ℕ} → ((n : ℕ) → Q n → R n) → All Q l → All R m → All R (l ++ m)
+all-then f end r = r
+all-then f (_⊳_ {n = n} q more) r = f n q ⊳ all-then f more r
+
+-- bytes for which a check is refused with n, and bytes and rooms for which a planning call is, without and with a page
 abbrev pub CheckRefused : ℕ → Type 0
 CheckRefused n = (t : List ℕ) × (s : List ℕ) × (checkAnswer t s ≡ refused n)
 
 abbrev pub PlanRefused : ℕ → Type 0
 PlanRefused n = (t : List ℕ) × (room₁ : ℕ) × (room₂ : ℕ) × (planAnswer t room₁ room₂ ≡ refused n)
+
+abbrev pub PageRefused : ℕ → Type 0
+PageRefused n = (t : List ℕ) × (room₁ : ℕ) × (room₂ : ℕ) × (room₃ : ℕ) × (pageAnswer t room₁ room₂ room₃ ≡ refused n)
 
 checks : All CheckRefused checkRefusals
 unfolding each hex checkAnswer _>>=_ _>>_ bind give field refuseIf many isClosed closing answer readAll slotsField diskField refField ticketReader ticketOf discardReader fetchReader actionReader roundReader roundsReader sheetReader scheduleRead play load noneResident start
@@ -75,6 +84,13 @@ plans =
     (hex 6 0x102008001000, 3, 2, refl) ⊳
     end
 
+-- where planning is refused, whatever the page's room; and A's page of 102 bytes in 101
+pages : All PageRefused pageRefusals
+unfolding hex pageAnswer _>>=_ _>>_ bind give field refuseIf many isClosed closing answer readAll slotsField diskField refField ticketReader ticketOf load noneResident
+pages =
+    all-then (λ n w. (w .0, w .1, w .2, 0, page-refusals (w .0) (w .1) (w .2) 0 n .1 (inl (w .3)))) plans
+    ((hex 6 0x102008001000, 3, 3, 101, refl) ⊳ end)
+
 -- both sheets of a choice may be the sheet for which the check is refused
 pub choose-numbers : (n : ℕ) → (among n checkRefusals ≡ true) ↔ ((t : List ℕ) × (first : List ℕ) × (second : List ℕ) × (chooseAnswer t first second ≡ refused n))
 choose-numbers n = (
@@ -87,6 +103,9 @@ check-numbers n = (all-among checks n, λ w. check-number (w .0) (w .1) n (w .2)
 
 pub plan-numbers : (n : ℕ) → (among n planRefusals ≡ true) ↔ PlanRefused n
 plan-numbers n = (all-among plans n, λ w. plan-number (w .0) (w .1) (w .2) n (w .3))
+
+pub page-numbers : (n : ℕ) → (among n pageRefusals ≡ true) ↔ PageRefused n
+page-numbers n = (all-among pages n, λ w. page-number (w .0) (w .1) (w .2) (w .3) n (w .4))
 
 -- "all counts 0"
 
@@ -112,3 +131,7 @@ pub plan-refused : (n : ℕ) (lent other : List ℕ)
     × (countsWritten planningNumbers (refused n) lent ≡ lent)
 unfolding returned partAfter written countsWritten
 plan-refused n lent other = ((refl, refl, refl, all-zero, all-zero), refl, refl, refl, refl)
+
+pub page-refused : (n : ℕ) (lent : List ℕ) → (planGiven (refused n) ≡ refused n) × (pageLength (refused n) ≡ 0) × (pageAfter (refused n) lent ≡ lent)
+unfolding planGiven pageLength written
+page-refused n lent = (refl, refl, refl)

@@ -1,6 +1,6 @@
--- What planning, checking and choosing give: document 01, "The two plans", its last three paragraphs, and "Numbers of a refused call"; request L1 of
--- document 02, "Choosing between sheets we already hold". `planAnswer`, `checkAnswer` and `chooseAnswer` are the three calls;
--- `crates/planner/src/lib.rt` has the functions whose contracts are equations with them. Assumes nothing.
+-- What planning, checking and choosing give: document 01, "The two plans", its last three paragraphs, and "Numbers of a refused call"; of document 02
+-- the requests L1, "Choosing between sheets we already hold", and L2, "A wall page of the run". `planAnswer`, `pageAnswer`, `checkAnswer` and
+-- `chooseAnswer` are the calls; `crates/planner/src/lib.rt` has the functions whose contracts are equations with them. Assumes nothing.
 use mathlib.Core.Path.{_≡_}
 use mathlib.Core.Bool.{Bool, false, cond, _||_}
 use mathlib.Core.List.{List, [], _∷_, _++_}
@@ -13,8 +13,9 @@ use Rattle.bits.specs.Reading.{Answer, given, refused}
 use Rattle.model.specs.Job.{Job}
 use Rattle.model.specs.Ticket.{ticketOf}
 use Rattle.model.specs.Playing.{Schedule, rounds, fetches}
-use Rattle.model.specs.Rules.{short, sparing}
-use Rattle.model.specs.Plans.{each, scheduleOf}
+use Rattle.model.specs.Rules.{Choice, short, sparing}
+use Rattle.model.specs.Plans.{each, planOf, scheduleOf}
+use Rattle.model.specs.Page.{pageOf}
 use Rattle.model.specs.Sheet.{sheetOf, scheduleRead}
 
 -- "the rounds and the fetches per disk, 0 for disks the job has not": eight fetch counts
@@ -160,6 +161,48 @@ partAfter a lent₁ lent₂ =
     let r = returned a in
     partOf (r .partLength) (r .short .rounds) (r .sparing .rounds) (shortAfter a lent₁) (sparingAfter a lent₂)
 
+-- What a planning call with a page that is not refused gives: all that planning gives, and the page.
+pub record PlannedPage : Type 0 where
+  pub planned : Planned
+  pub page : List ℕ
+
+-- L2: "For the plan handed back": the marked plan of a job, with its reasons.
+unfoldable pub planHanded : Mark → Job → List (List Choice)
+unfolding planOf short sparing
+planHanded mark j = planOf (chosen mark short sparing) j
+
+-- L2: "19, the page does not fit, tested after 18": from what planning gives for the job. `room₃` is the length of the page's buffer.
+unfoldable pub withPage : ℕ → Job → Answer Planned → Answer PlannedPage
+unfolding pageOf planHanded
+withPage room₃ j (given p) =
+    let page = pageOf (planHanded (p .mark) j) in
+    cond (ltb room₃ (length page)) (refused 19) (given (record { planned = p; page = page }))
+withPage room₃ j (refused n) = refused n
+
+unfoldable pub pageFor : ℕ → ℕ → ℕ → Answer Job → Answer PlannedPage
+unfolding withPage plannedFor
+pageFor room₁ room₂ room₃ (given j) = withPage room₃ j (plannedFor room₁ room₂ (given j))
+pageFor room₁ room₂ room₃ (refused n) = refused n
+
+-- A planning call with a page: a ticket, and the lengths of the three lent buffers. L2: "The page comes from a planning call that is lent a third
+-- buffer for it and writes both sheets as before."
+unfoldable pub pageAnswer : List ℕ → ℕ → ℕ → ℕ → Answer PlannedPage
+unfolding pageFor ticketOf
+pageAnswer ticket room₁ room₂ room₃ = pageFor room₁ room₂ room₃ (ticketOf ticket)
+
+-- What planning alone gives of it: `returned`, `shortAfter`, `sparingAfter` and `partAfter` are then as above.
+unfoldable pub planGiven : Answer PlannedPage → Answer Planned
+planGiven (given p) = given (p .planned)
+planGiven (refused n) = refused n
+
+-- L2: "The page's length is returned too, and bytes past it stay." A refusal has no page, and changes no lent byte.
+unfoldable pub pageLength : Answer PlannedPage → ℕ
+pageLength (given p) = length (p .page)
+pageLength (refused n) = 0
+
+abbrev pub pageAfter : Answer PlannedPage → List ℕ → List ℕ
+pageAfter a lent = written (λ p. p .page) a lent
+
 -- "A pass by the check gives the sheet's rounds and fetches per disk."
 unfoldable pub passOf : Answer Schedule → Answer Counts
 unfolding countsOf
@@ -242,6 +285,10 @@ checkRefusals = ticketNumbers ++ sheetNumbers
 
 abbrev pub planRefusals : List ℕ
 planRefusals = ticketNumbers ++ roomNumbers
+
+-- L2: "Turned away: 19"
+abbrev pub pageRefusals : List ℕ
+pageRefusals = planRefusals ++ 19 ∷ []
 
 -- whether a number is among those of a list
 unfoldable pub among : ℕ → List ℕ → Bool

@@ -3,6 +3,8 @@ pub mod Ticket
 pub mod Playing
 pub mod Rules
 pub mod Plans
+pub mod Text
+pub mod Page
 pub mod Sheet
 pub mod Valid
 pub mod Calls

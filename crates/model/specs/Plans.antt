@@ -3,8 +3,9 @@ use mathlib.Core.Bool.{true, false}
 use mathlib.Core.List.{List, [], _∷_, map}
 use Prim.Native.Nat.{ℕ, zero, suc}
 use lib.Dec.{ltb}
+use lib.ListN.{take}
 use Rattle.model.specs.Job.{Job, diskCount, refCount}
-use Rattle.model.specs.Playing.{Schedule, State, start, playRound}
+use Rattle.model.specs.Playing.{Schedule, State, start, playRound, play}
 use Rattle.model.specs.Rules.{Choice, action, Rule}
 
 -- f i, f (i + 1), .., k of them
@@ -36,3 +37,8 @@ planOf rule j = planFrom rule j (refCount j) (start j)
 unfoldable pub scheduleOf : Rule → Job → Schedule
 unfolding planOf
 scheduleOf rule j = map (map action) (planOf rule j)
+
+-- The state at the start of a plan's round, where r rounds have been played.
+unfoldable pub stateAfter : Rule → Job → ℕ → State
+unfolding scheduleOf start play
+stateAfter rule j r = play j (start j) (take r (scheduleOf rule j))

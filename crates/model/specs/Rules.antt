@@ -57,7 +57,7 @@ minBlock j s d = best (inBuffer j s d) (λ b c. leb (distanceNow j s c) (distanc
 abbrev pub slotEmpty : Job → State → ℕ → Bool
 slotEmpty j s d = ltb (load j (s .resident) d) (slotsOf j d)
 
--- One action with the reason for it. The letters are those that request L2 will print.
+-- One action with the reason for it. The letters are those of a page (`Page.antt`).
 pub data Choice : Type 0 where
   -- E: U is fetched into an empty slot
   intoEmpty : ℕ → Choice

@@ -1,15 +1,17 @@
--- What joins the calls: the part that `planner::part` gives of the two buffers and the value that `planner::plan` left, and the sheet that
--- `planner::chosen_sheet` gives of the two sheets and the value that `planner::choose` gave. Assumes nothing.
-use mathlib.Core.Path.{_≡_, refl, ap, _∙_}
+-- What joins the calls: the part that `planner::part` gives of the two buffers and the value that `planner::plan` or `planner::plan_with_page` left,
+-- and the sheet that `planner::chosen_sheet` gives of the two sheets and the value that `planner::choose` gave. Assumes nothing.
+use mathlib.Core.Path.{_≡_, refl, sym, ap, _∙_}
 use mathlib.Core.List.{List, []}
 use mathlib.Core.Option.{Option, none, some}
 use Prim.Native.Nat.{ℕ}
+use lib.ListN.{length}
 use Rattle.bits.specs.Reading.{Answer, given, refused}
-use Rattle.model.specs.Calls.{isFirst, isSecond, ofTwo, handed, shortAfter, sparingAfter, returned, partOf, partAfter, ChosenSheet, chooseAnswer, returnedChoice, sheetHanded, sheetAfter}
+use Rattle.model.specs.Calls.{isFirst, isSecond, ofTwo, handed, shortAfter, sparingAfter, returned, partOf, partAfter, planGiven, ChosenSheet, chooseAnswer, returnedChoice, sheetHanded, sheetAfter}
 use Rattle.model.specs.Calls.{Which as WhichGiven}
 use Rattle.model.specs.Calls.{Planned as PlanGiven}
-use Rattle.model.proofs.Promises.{part-handed, plan-refused, sheet-handed, choose-refused}
-use Rattle.planner.specs.Planner.{plannedAs, planInto, whichAs, whichGiven, chosenAs}
+use Rattle.model.specs.Calls.{PlannedPage as PageGiven}
+use Rattle.model.proofs.Promises.{part-handed, plan-refused, page-exactly, sheet-handed, choose-refused}
+use Rattle.planner.specs.Planner.{plannedAs, planInto, pageInto, whichAs, whichGiven, chosenAs}
 
 -- by the contracts of both: what `part` gives after a planning call that gave `a`
 abbrev pub partOfCall : Answer PlanGiven → List ℕ → List ℕ → List ℕ
@@ -28,6 +30,21 @@ part-given t short sparing p e = ap (λ (a : Answer PlanGiven). partOfCall a sho
 -- after a refusal it is empty.
 pub part-refused : (t short sparing : List ℕ) (n : ℕ) → planInto t short sparing ≡ refused n → partOfCall (planInto t short sparing) short sparing ≡ []
 part-refused t short sparing n e = ap (λ (a : Answer PlanGiven). partOfCall a short sparing) e ∙ same-part (refused n) short sparing ∙ plan-refused n short sparing .1
+
+-- After planning with a page it is the same.
+pub page-part-given : (t short sparing page : List ℕ) (p : PageGiven) → pageInto t short sparing page ≡ given p
+    → partOfCall (planGiven (pageInto t short sparing page)) short sparing ≡ handed (p .planned)
+unfolding planGiven
+page-part-given t short sparing page p e =
+    let planned = page-exactly t (length short) (length sparing) (length page) p .0 e .2 in
+    ap (λ (a : Answer PageGiven). partOfCall (planGiven a) short sparing) e
+    ∙ ap (λ (a : Answer PlanGiven). partOfCall a short sparing) (sym planned) ∙ part-given t short sparing (p .planned) planned
+
+pub page-part-refused : (t short sparing page : List ℕ) (n : ℕ) → pageInto t short sparing page ≡ refused n
+    → partOfCall (planGiven (pageInto t short sparing page)) short sparing ≡ []
+unfolding planGiven
+page-part-refused t short sparing page n e =
+    ap (λ (a : Answer PageGiven). partOfCall (planGiven a) short sparing) e ∙ same-part (refused n) short sparing ∙ plan-refused n short sparing .1
 
 -- by the contracts of both: what `chosen_sheet` gives after a choice that gave `a`
 abbrev pub sheetOfCall : Answer ChosenSheet → List ℕ → List ℕ → List ℕ

@@ -4,3 +4,4 @@ mod Rooms
 mod TwoSheets
 mod Laying
 mod Exports
+mod Pages

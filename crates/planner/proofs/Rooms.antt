@@ -1,7 +1,7 @@
 -- What planning gives, from what the parts of the call give. Assumes nothing.
 use mathlib.Core.Path.{_≡_, refl, sym, ap, _∙_, subst}
 use mathlib.Core.List.{List}
-use Prim.Native.Nat.{ℕ, _+_, _/_, _≤_}
+use Prim.Native.Nat.{ℕ, _+_, _/_, _^_, _≤_, _<_}
 use native.Mathlib.Omega.{arith}
 use lib.Dec.{ltb}
 use lib.ListN.{length, take}
@@ -27,8 +27,6 @@ use Rattle.choosing.specs.declared.Rule.the-variants.{Short, Sparing}
 use Rattle.planning.specs.Planning.{totalsOf, plansOf}
 use Rattle.planning.specs.declared.Totals.{Totals}
 use Rattle.planning.specs.declared.Plans.{Plans}
-use mir.Val.{Fits as Machine}
-use mir.Syntax.{w64}
 use Rattle.planner.specs.Planner.{plannedAs, roomNumber, outcomeOf, Promised}
 use Rattle.planner.specs.declared.Planned.{Planned}
 
@@ -115,7 +113,7 @@ module _ (j : Job) (sound : Sound j) where
   abbrev theSchedule : Rule → Schedule
   theSchedule rule = scheduleOf (ruleOf rule) j
 
-  sheet-long : (rule : Rule) → length (sheetOf (theSchedule rule)) ≤ 40962
+  pub sheet-long : (rule : Rule) → length (sheetOf (theSchedule rule)) ≤ 40962
   sheet-long Sparing = sparing-rounds _ j (sound-accepted j sound) .3
   sheet-long Short = short-rounds _ j (sound-accepted j sound) .3
 
@@ -128,15 +126,15 @@ module _ (j : Job) (sound : Sound j) where
     bytes-few : (r .bits + 7) / 8 ≤ 40962
     bytes-few = let l = sheet-bytes in let m = sheet-long rule in omega (arith, l, m)
 
-    -- a count of bits, and seven more, is a machine number
-    pub bits-fit : Machine w64 (r .bits + 7)
-    bits-fit = let m = bytes-few in omega (arith, m)
+    -- a count of bits is small
+    pub bits-few : r .bits < 2 ^ 32
+    bits-few = let m = bytes-few in omega (arith, m)
 
     -- the scratch bytes have room for the sheet, and their front is the sheet
-    pub scratch-room : (s : List ℕ) → s ≡ bytes 40968 (sheetBits (theSchedule rule)) → (length s ≡ 40968) × ((r .bits + 7) / 8 ≤ 40968)
+    scratch-room : (s : List ℕ) → s ≡ bytes 40968 (sheetBits (theSchedule rule)) → (length s ≡ 40968) × ((r .bits + 7) / 8 ≤ 40968)
     scratch-room s p = (ap length p ∙ length-bytes 40968 (sheetBits (theSchedule rule)), let few = bytes-few in omega (arith, few))
 
-    pub copied : (s lent lent′ : List ℕ) → s ≡ bytes 40968 (sheetBits (theSchedule rule)) → lent′ ≡ over (take ((r .bits + 7) / 8) s) lent
+    copied : (s lent lent′ : List ℕ) → s ≡ bytes 40968 (sheetBits (theSchedule rule)) → lent′ ≡ over (take ((r .bits + 7) / 8) s) lent
         → lent′ ≡ over (sheetOf (theSchedule rule)) lent
     unfolding totalsOf sheetOf pack
     copied s lent lent′ p w =
@@ -166,19 +164,37 @@ module _ (j : Job) (sound : Sound j) where
     n-is : n ≡ length (sheetOf (theSchedule Sparing))
     n-is = sheet-bytes Sparing (p .sparing) sparing-totals
 
-    abbrev bothPlans : PlanGiven
+    abbrev pub bothPlans : PlanGiven
     bothPlans = plannedOf (theSchedule Short) (theSchedule Sparing)
 
     -- what planning gives for two rooms
-    module _ (a b number : ℕ) (e : number ≡ roomNumber m a n b) where
+    module _ (a b x y number : ℕ) (ex : x ≡ m) (ey : y ≡ n) (e : number ≡ roomNumber x a y b) where
+      number-for : number ≡ roomNumber m a n b
+      number-for = e ∙ (λ i. roomNumber (ex i) a (ey i) b)
+
       pub job-refused : (number ≡ 0 → ⊥) → plannedFor a b (given j) ≡ refused number
       unfolding plannedFor plannedOf
-      job-refused f = no-room m a n b number bothPlans m-is n-is e f
+      job-refused f = no-room m a n b number bothPlans m-is n-is number-for f
 
       pub job-given : number ≡ 0 → (plannedFor a b (given j) ≡ given bothPlans) × (m ≤ a) × (n ≤ b)
       unfolding plannedFor plannedOf
-      job-given z = both-fit m a n b number bothPlans m-is n-is e z
+      job-given z = both-fit m a n b number bothPlans m-is n-is number-for z
 
-    pub outcome-given : outcomeOf (p .short) m (p .sparing) n ≡ plannedAs (returned (given bothPlans))
-    unfolding outcomeOf plannedAs returned plannedOf countsOf totalsOf
-    outcome-given = λ i. outcomeOf (short-totals i) (m-is i) (sparing-totals i) (n-is i)
+    -- what `hand_out` asks, and what it then gives
+    module _ {first second : List ℕ} (e₁ : first ≡ bytes 40968 (sheetBits (theSchedule Short))) (e₂ : second ≡ bytes 40968 (sheetBits (theSchedule Sparing))) where
+      pub hand-asks : {a b : ℕ} → m ≤ a → n ≤ b
+          → ((p .short .bits < 2 ^ 32) × (m ≤ length first) × (m ≤ a)) × ((p .sparing .bits < 2 ^ 32) × (n ≤ length second) × (n ≤ b))
+      hand-asks fits₁ fits₂ =
+          let s = scratch-room Short (p .short) short-totals first e₁ in
+          let t = scratch-room Sparing (p .sparing) sparing-totals second e₂ in
+          ((bits-few Short (p .short) short-totals, omega (arith, s), fits₁), (bits-few Sparing (p .sparing) sparing-totals, omega (arith, t), fits₂))
+
+      pub hand-gives : (a : Answer PlanGiven) (short sparing : List ℕ) {r : Planned} {short′ sparing′ : List ℕ} → a ≡ given bothPlans
+          → (r ≡ outcomeOf (p .short) m (p .sparing) n) × (short′ ≡ over (take m first) short) × (sparing′ ≡ over (take n second) sparing)
+          → Gives a short sparing r short′ sparing′
+      unfolding outcomeOf plannedAs returned plannedOf countsOf totalsOf
+      hand-gives a short sparing e h =
+          gives-given a short sparing _ _ _ bothPlans e
+          (h .0 ∙ (λ i. outcomeOf (short-totals i) (m-is i) (sparing-totals i) (n-is i)))
+          (copied Short (p .short) short-totals first short _ e₁ (h .1))
+          (copied Sparing (p .sparing) sparing-totals second sparing _ e₂ (h .2))

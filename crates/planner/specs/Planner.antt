@@ -1,20 +1,21 @@
 -- What the public calls give, as values of the code, and the promises that their contracts carry. Assumes nothing.
 use mathlib.Core.Path.{_≡_}
 use mathlib.Core.Logic.{_↔_}
-use mathlib.Core.Bool.{cond}
+use mathlib.Core.Bool.{cond, _&&_}
 use mathlib.Core.List.{List}
 use mathlib.Core.Option.{Option, none, some}
 use Prim.Native.Nat.{ℕ, _≤_}
-use lib.Dec.{ltb}
+use lib.Dec.{ltb, eqb}
 use lib.ListN.{length, getD}
 use Rattle.bits.specs.Reading.{Answer, given, refused}
 use Rattle.model.specs.Job.{Job}
 use Rattle.model.specs.Ticket.{ticketOf}
 use Rattle.model.specs.Playing.{Schedule}
 use Rattle.model.specs.Valid.{ValidSheet}
-use Rattle.model.specs.Calls.{countsOf, fetchesOn, shortCounts, sparingCounts, isFirst, isSecond, ofTwo, whichFor, isShort, isSparing, markFor, chosen, handedCounts, Returned, planAnswer, checkAnswer, ChosenSheet, ReturnedChoice}
+use Rattle.model.specs.Calls.{countsOf, fetchesOn, shortCounts, sparingCounts, isFirst, isSecond, ofTwo, whichFor, isShort, isSparing, markFor, chosen, handedCounts, Returned, returned, planAnswer, pageAnswer, planGiven, pageLength, checkAnswer, ChosenSheet, ReturnedChoice}
 use Rattle.model.specs.Calls.{Which as WhichGiven}
 use Rattle.model.specs.Calls.{Planned as PlanGiven}
+use Rattle.model.specs.Calls.{PlannedPage as PageGiven}
 use Rattle.model.specs.Calls.{Mark as MarkGiven}
 use Rattle.model.specs.Calls.{Counts as CountsGiven}
 use Rattle.checking.specs.Checking.{checkedOf}
@@ -22,6 +23,7 @@ use Rattle.checking.specs.declared.Checked.{Checked}
 use Rattle.planning.specs.declared.Totals.{Totals}
 use Rattle.planner.specs.declared.Counts.{Counts}
 use Rattle.planner.specs.declared.Planned.{Planned}
+use Rattle.planner.specs.declared.PlannedPage.{PlannedPage}
 use Rattle.planner.specs.declared.Mark.{Mark}
 use Rattle.planner.specs.declared.Mark.the-variants.{Unmarked, Short, Sparing}
 use Rattle.planner.specs.declared.Which.{Which}
@@ -83,6 +85,11 @@ plannedAs r = record {
   sparing = countsAs (r .sparing);
 }
 
+-- What a planning call with a page returns: all that planning returns, and the page's length.
+unfoldable pub plannedPageAs : Answer PageGiven → PlannedPage
+unfolding plannedAs returned planGiven pageLength
+plannedPageAs a = record { planned = plannedAs (returned (planGiven a)); length = pageLength a }
+
 -- What a choice returns.
 unfoldable pub chosenAs : ReturnedChoice → Chosen
 chosenAs r = record { number = r .number; which = whichAs (r .which); length = r .sheetLength }
@@ -91,9 +98,17 @@ chosenAs r = record { number = r .number; which = whichAs (r .which); length = r
 abbrev pub planInto : List ℕ → List ℕ → List ℕ → Answer PlanGiven
 planInto ticket short sparing = planAnswer ticket (length short) (length sparing)
 
+-- A planning call with a page, likewise.
+abbrev pub pageInto : List ℕ → List ℕ → List ℕ → List ℕ → Answer PageGiven
+pageInto ticket short sparing page = pageAnswer ticket (length short) (length sparing) (length page)
+
 -- The number of two sheets of m and n bytes for two buffers: 17, 18, or 0 where both fit.
 unfoldable pub roomNumber : ℕ → ℕ → ℕ → ℕ → ℕ
 roomNumber m room₁ n room₂ = cond (ltb room₁ m) 17 (cond (ltb room₂ n) 18 0)
+
+-- The number of two sheets and a page of n bytes for a third buffer: that of the sheets, 19, or 0 where all three fit.
+unfoldable pub pageNumber : ℕ → ℕ → ℕ → ℕ
+pageNumber number n room₃ = cond (eqb number 0 && ltb room₃ n) 19 number
 
 abbrev pub totalCounts : Totals → Counts
 totalCounts a = record { rounds = a .rounds; fetches = a .fetches }

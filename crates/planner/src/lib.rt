@@ -1,20 +1,22 @@
-// The public calls: planning and the part with the sheet to run, the check, the choice between two sheets and the sheet chosen; and planning, check
-// and choice from C. Document 01, its calls; document 02, L1.
+// The public calls: planning and the part with the sheet to run, planning with a page, the check, the choice between two sheets and the sheet chosen;
+// and planning, check and choice from C. Document 01, its calls; document 02, L1 and L2.
 use checking::Checked;
 use job::Job;
+use planning::Plans;
 use planning::Totals;
 ghost use mathlib.Core.Path.{_≡_};
 ghost use mathlib.Core.List.{_∷_};
 ghost use mathlib.Core.Option.{some};
-ghost use Prim.Native.Nat.{_*_, _≤_};
+ghost use Prim.Native.Nat.{_*_, _^_, _≤_, _<_};
 ghost use lib.ListN.{length, getD, take};
+ghost use Rattle.bits.specs.Bits.{bytesFor, over};
 ghost use Rattle.bits.specs.Fields.{laidAt};
 ghost use Rattle.bits.specs.Reading.{given, refused};
 ghost use Rattle.job.specs.Meaning.{jobOf, Fits};
 ghost use Rattle.model.specs.Plans.{each};
-ghost use Rattle.model.specs.Calls.{whichFor, markFor, chosen, plannedFor, shortAfter, sparingAfter, returned, partOf, checkAnswer, chooseAnswer, returnedChoice, sheetHanded, countsWritten, countsNumbers, planningNumbers, choiceNumbers, numberOf, halves};
+ghost use Rattle.model.specs.Calls.{whichFor, markFor, chosen, plannedFor, shortAfter, sparingAfter, returned, partOf, pageFor, planGiven, pageLength, pageAfter, checkAnswer, chooseAnswer, returnedChoice, sheetHanded, countsWritten, countsNumbers, planningNumbers, choiceNumbers, numberOf, halves};
 ghost use Rattle.checking.specs.Checking.{checkedOf};
-ghost use Rattle.planner.specs.Planner.{plannedAs, planInto, roomNumber, totalCounts, outcomeOf, Unbeaten, Exact, Promised, markNumber, whichAs, whichGiven, whichBegins, markOf, ofWhich, chosenAs, preferenceOf, Preferred};
+ghost use Rattle.planner.specs.Planner.{plannedAs, plannedPageAs, planInto, pageInto, roomNumber, pageNumber, totalCounts, outcomeOf, Unbeaten, Exact, Promised, markNumber, whichAs, whichGiven, whichBegins, markOf, ofWhich, chosenAs, preferenceOf, Preferred};
 
 // The mark of the sheet that is run; `Unmarked` on a refusal.
 pub enum Mark {
@@ -37,6 +39,12 @@ pub struct Planned {
     pub length: usize,
     pub short: Counts,
     pub sparing: Counts,
+}
+
+// What planning with a page gives: what planning gives, and the page's length, 0 on a refusal.
+pub struct PlannedPage {
+    pub planned: Planned,
+    pub length: usize,
 }
 
 // Which of two sheets is handed back; `Neither` on a refusal.
@@ -121,9 +129,9 @@ pub fn part<'a>(short: &'a [u8], sparing: &'a [u8], planned: Planned) -> &'a [u8
     ensures bytes { λ r. ⌜ now r ≡ partOf (planned .length) (planned .short .rounds) (planned .sparing .rounds) (now (short .entry)) (now (sparing .entry)) ⌝ }
     ensures buffer { λ r. ⌜ r .ptr ≡ chosen (markFor (planned .short .rounds) (planned .sparing .rounds)) (short .entry .ptr) (sparing .entry .ptr) ⌝ }
 {
-    let a = planned.short;
-    let b = planned.sparing;
-    let which = which_for(a.rounds, b.rounds);
+    let short_counts = planned.short;
+    let sparing_counts = planned.sparing;
+    let which = which_for(short_counts.rounds, sparing_counts.rounds);
     handed_slice(which, planned.length, short, sparing)
 }
 
@@ -176,7 +184,39 @@ fn outcome(short: Totals, m: usize, sparing: Totals, n: usize) -> Planned
     }
 }
 
-// Planning of a job: both plans are made in scratch sheets, and copied where both fit.
+// How many bytes the sheet of a plan has.
+fn sheet_length(plan: Totals) -> usize
+    requires { ⌜ plan .bits < 2 ^ 32 ⌝ }
+    ensures { λ r. ⌜ r ≡ bytesFor (plan .bits) ⌝ }
+{
+    (plan.bits + 7) / 8
+}
+
+// Both sheets copied from where they were made to buffers in which they fit.
+fn hand_out(
+    plans: Plans,
+    first: &[u8],
+    second: &[u8],
+    short: &mut [u8],
+    sparing: &mut [u8],
+) -> Planned
+    requires { ⌜ (plans .short .bits < 2 ^ 32) × (bytesFor (plans .short .bits) ≤ length (now first)) × (bytesFor (plans .short .bits) ≤ length (now short)) ⌝ }
+    requires { ⌜ (plans .sparing .bits < 2 ^ 32) × (bytesFor (plans .sparing .bits) ≤ length (now second)) × (bytesFor (plans .sparing .bits) ≤ length (now sparing)) ⌝ }
+    ensures { λ r. ⌜ (let m = bytesFor (plans .short .bits) in let n = bytesFor (plans .sparing .bits) in
+        (r ≡ outcomeOf (plans .short) m (plans .sparing) n)
+        × (now (short .exit) ≡ over (take m (now (first .entry))) (now (short .entry)))
+        × (now (sparing .exit) ≡ over (take n (now (second .entry))) (now (sparing .entry)))) ⌝ }
+{
+    let a = plans.short;
+    let b = plans.sparing;
+    let m = sheet_length(a);
+    let n = sheet_length(b);
+    bits::copy_front(first, m, short);
+    bits::copy_front(second, n, sparing);
+    outcome(a, m, b, n)
+}
+
+// Planning of a job: both plans are made in scratch sheets, without their reasons, and copied where both fit.
 fn plan_job(job: Job, short: &mut [u8], sparing: &mut [u8]) -> Planned
     requires { ⌜ Fits job ⌝ }
     ensures { λ r. ⌜ (let a = plannedFor (length (now (short .entry))) (length (now (sparing .entry))) (given (jobOf job)) in
@@ -186,18 +226,19 @@ fn plan_job(job: Job, short: &mut [u8], sparing: &mut [u8]) -> Planned
 {
     let mut first = [0u8; 40968];
     let mut second = [0u8; 40968];
-    let plans = planning::run(job, &mut first, &mut second);
-    let a = plans.short;
-    let b = plans.sparing;
-    let m = (a.bits + 7) / 8;
-    let n = (b.bits + 7) / 8;
-    let number = room_number(m, short.len(), n, sparing.len());
+    let mut none = [0u8; 0];
+    let mut neither = [0u8; 0];
+    let plans = planning::run(job, &mut first, &mut second, &mut none, &mut neither);
+    let number = room_number(
+        sheet_length(plans.short),
+        short.len(),
+        sheet_length(plans.sparing),
+        sparing.len(),
+    );
     if number != 0 {
         return refusal(number);
     }
-    bits::copy_front(&first, m, short);
-    bits::copy_front(&second, n, sparing);
-    outcome(a, m, b, n)
+    hand_out(plans, &first, &second, short, sparing)
 }
 
 // Planning: a ticket, and the lent buffers for the short and the sparing sheet. What it returns, both buffers afterwards, and what is promised.
@@ -213,6 +254,92 @@ pub fn plan(ticket: &[u8], short: &mut [u8], sparing: &mut [u8]) -> Planned
         return refusal(read.number);
     }
     plan_job(read.job, short, sparing)
+}
+
+// A refused planning call with a page.
+fn page_refusal(number: usize) -> PlannedPage
+    ensures { λ r. ⌜ r ≡ plannedPageAs (refused number) ⌝ }
+{
+    PlannedPage {
+        planned: refusal(number),
+        length: 0,
+    }
+}
+
+// The number of a planning call with a page of n bytes, from that of its two sheets: 19 where they fit and the page does not.
+fn page_number(number: usize, n: usize, page: usize) -> usize
+    ensures { λ r. ⌜ r ≡ pageNumber number n page ⌝ }
+{
+    if number == 0 {
+        if page < n {
+            return 19;
+        }
+    }
+    number
+}
+
+// Planning of a job with a page: as `plan_job`, with the reasons of both plans. The page is made from the sheet and the reasons of the plan handed
+// back.
+fn page_job(job: Job, short: &mut [u8], sparing: &mut [u8], page: &mut [u8]) -> PlannedPage
+    requires { ⌜ Fits job ⌝ }
+    ensures { λ r. ⌜ (let a = pageFor (length (now (short .entry))) (length (now (sparing .entry))) (length (now (page .entry))) (given (jobOf job)) in
+        (r ≡ plannedPageAs a)
+        × (now (short .exit) ≡ shortAfter (planGiven a) (now (short .entry)))
+        × (now (sparing .exit) ≡ sparingAfter (planGiven a) (now (sparing .entry)))
+        × (now (page .exit) ≡ pageAfter a (now (page .entry)))) ⌝ }
+{
+    let mut first = [0u8; 40968];
+    let mut second = [0u8; 40968];
+    let mut why_first = [0u8; 16384];
+    let mut why_second = [0u8; 16384];
+    let plans = planning::run(
+        job,
+        &mut first,
+        &mut second,
+        &mut why_first,
+        &mut why_second,
+    );
+    let a = plans.short;
+    let b = plans.sparing;
+    let which = which_for(a.rounds, b.rounds);
+    let lines = of_which(which, a.rounds, b.rounds) * job.disks;
+    let length = lines * 17 + 85;
+    let refused = page_number(
+        room_number(sheet_length(a), short.len(), sheet_length(b), sparing.len()),
+        length,
+        page.len(),
+    );
+    if refused != 0 {
+        return page_refusal(refused);
+    }
+    let planned = hand_out(plans, &first, &second, short, sparing);
+    let sheet = handed_slice(which, 40968, &first, &second);
+    let reasons = handed_slice(which, 16384, &why_first, &why_second);
+    printing::put_page(page, sheet, reasons, job.disks, lines);
+    PlannedPage { planned, length }
+}
+
+// Planning with a page (L2): a ticket, and the lent buffers for the short and the sparing sheet and for the page of the plan handed back. What it
+// returns, the three buffers afterwards, and what is promised of planning.
+pub fn plan_with_page(
+    ticket: &[u8],
+    short: &mut [u8],
+    sparing: &mut [u8],
+    page: &mut [u8],
+) -> PlannedPage
+    ensures { λ r. ⌜ (let a = pageInto (now (ticket .entry)) (now (short .entry)) (now (sparing .entry)) (now (page .entry)) in
+        (r .planned ≡ plannedAs (returned (planGiven a)))
+        × (r .length ≡ pageLength a)
+        × (now (short .exit) ≡ shortAfter (planGiven a) (now (short .entry)))
+        × (now (sparing .exit) ≡ sparingAfter (planGiven a) (now (sparing .entry)))
+        × (now (page .exit) ≡ pageAfter a (now (page .entry)))
+        × Promised (now (ticket .entry)) (planGiven a)) ⌝ }
+{
+    let read = ticket::read(ticket);
+    if read.number != 0 {
+        return page_refusal(read.number);
+    }
+    page_job(read.job, short, sparing, page)
 }
 
 // The check: a ticket and a sheet. What it returns, and what is promised.

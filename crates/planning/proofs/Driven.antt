@@ -1,8 +1,8 @@
--- A plan driven from a desk that is right for a state is the model's plan from that state. Assumes nothing.
+-- A plan driven from a desk that is right for a state is the model's plan from that state, with its reasons. Assumes nothing.
 use mathlib.Core.Path.{_≡_, refl, sym, ap, ap₂, _∙_, subst}
 use mathlib.Core.Bool.{Bool, true, false, _&&_}
-use mathlib.Core.List.{List, [], _∷_, map}
-use Prim.Native.Nat.{ℕ, zero, suc, _+_, _≤_, _<_}
+use mathlib.Core.List.{List, [], _∷_, _++_, map}
+use Prim.Native.Nat.{ℕ, zero, suc, _+_, _%_, _≤_, _<_}
 use native.Mathlib.Omega.{arith}
 use lib.Dec.{ltb}
 use lib.ListN.{length, getD, set, drop, length-set, drop-of-length-le}
@@ -11,13 +11,14 @@ use borrow.Author.Tests.{ltb-true, ltb-false}
 use Rattle.bits.proofs.Logic.{by-test, and-true, and-false-left, and-false-right}
 use Rattle.model.specs.Job.{Job, Sound, diskCount, refCount, refAt}
 use Rattle.model.specs.Playing.{Action, Schedule, State, isResident, actAll, consumed, playRound}
-use Rattle.model.specs.Rules.{action}
+use Rattle.model.specs.Rules.{Choice, intoEmpty, overMinBlock, minBlockSooner, waits, noneMissing, action}
 use Rattle.model.specs.Rules.{Rule as JobRule}
 use Rattle.model.specs.Plans.{each, choices, planFrom}
+use Rattle.model.specs.Page.{reason, reasonsOf}
 use Rattle.model.specs.Valid.{Ready}
 use Rattle.model.proofs.Plans.{actionsOf, plan-round}
 use Rattle.model.proofs.Rounds.{ready-after}
-use Rattle.lookup.specs.Desk.{nexts, laters, helds, looks, withCell, ofBlock}
+use Rattle.lookup.specs.Desk.{cell, nexts, laters, helds, looks, withCell, ofBlock}
 use Rattle.lookup.proofs.Laws.{pass-distance}
 use Rattle.lookup.proofs.Rows.{row-other, row-same}
 use Rattle.playing.specs.Playing.{consumeOne}
@@ -26,8 +27,8 @@ use Rattle.choosing.specs.Choosing.{ruleOf}
 use Rattle.choosing.specs.declared.Rule.{Rule}
 use Rattle.choosing.proofs.Right.{Forward}
 use Rattle.choosing.proofs.DiskStaysRight.{disk-read}
-use Rattle.writing.specs.Writing.{actionIn, actionsIn}
-use Rattle.planning.specs.Driving.{PlanInput, PlanState, readNext, canRead, readFrom, allActed, roundFrom, drivenFrom}
+use Rattle.writing.specs.Writing.{actionIn, actionsIn, reasonsIn}
+use Rattle.planning.specs.Driving.{PlanInput, PlanState, readNext, canRead, readFrom, allActed, roundFrom, drivenFrom, reasonsFrom}
 use Rattle.planning.proofs.TurnsRight.{inputOf, lawful-of, midState, many, StandsFor, AfterTurns, at-disk}
 
 -- lists made number by number
@@ -60,7 +61,15 @@ stands-same {j} {s} {t} {p} m n h =
       rows = h .rows;
       longFetched = h .longFetched;
       longDiscarded = h .longDiscarded;
+      longReasons = h .longReasons;
     }
+
+reason-few : (c : Choice) → reason c < 5
+reason-few (intoEmpty u) = omega arith
+reason-few (overMinBlock u v) = omega arith
+reason-few minBlockSooner = omega arith
+reason-few waits = omega arith
+reason-few noneMissing = omega arith
 
 module _ (rule : Rule) (j : Job) (sound : Sound j) {steps : List (List ℕ)} (forward : Forward j steps) where
   abbrev k : PlanInput
@@ -110,6 +119,7 @@ module _ (rule : Rule) (j : Job) (sound : Sound j) {steps : List (List ℕ)} (fo
         rows = h .rows;
         longFetched = h .longFetched;
         longDiscarded = h .longDiscarded;
+        longReasons = h .longReasons;
       })
 
   -- what is consumed of the references from i on
@@ -153,7 +163,7 @@ module _ (rule : Rule) (j : Job) (sound : Sound j) {steps : List (List ℕ)} (fo
 
     turn-none : AfterTurns r j s 0 p
     unfolding midState actAll
-    turn-none = record { stands = stands-same refl refl h; chosen = λ e l. absurd (omega arith) }
+    turn-none = record { stands = stands-same refl refl h; chosen = λ e l. absurd (omega arith); why = λ e l. absurd (omega arith) }
 
     turn-all : AfterTurns r j s (diskCount j) (allActed k p)
     turn-all = at-disk rule j sound forward s ready p turn-none (diskCount j) (omega arith)
@@ -170,6 +180,14 @@ module _ (rule : Rule) (j : Job) (sound : Sound j) {steps : List (List ℕ)} (fo
     acts-are =
         each-cong (actionIn (allActed k p .acts)) (λ e. action (r j s e)) 0 (diskCount j) (λ e lo hi. turn-all .chosen e (omega arith))
         ∙ sym (map-each action (r j s) 0 (diskCount j))
+
+    -- for the rule's reasons,
+    reasons-are : reasonsIn (allActed k p .acts) (diskCount j) ≡ map reason (choices r j s)
+    unfolding reasonsIn choices
+    reasons-are =
+        each-cong (λ (e : ℕ). cell (allActed k p .acts) 2 e % 256) (λ e. reason (r j s e)) 0 (diskCount j)
+        (λ e lo hi. let why = turn-all .why e (omega arith) in let few = reason-few (r j s e) in omega (arith, why, few))
+        ∙ sym (map-each reason (r j s) 0 (diskCount j))
 
     -- and what is there after the round stands for the state after it.
     stands-after : StandsFor j (playRound j s (actionsOf r j s)) (roundFrom k p)
@@ -191,3 +209,17 @@ module _ (rule : Rule) (j : Job) (sound : Sound j) {steps : List (List ℕ)} (fo
       (driven-is most after (ready-after j s actions after ready (plan-round (ruleOf rule) (lawful-of rule) j sound s ready)) (roundFrom k p)
       (stands-after s ready p h))))
       (λ f. rw (at, f, drivenFrom, planFrom) refl)
+
+  pub driven-reasons : (most : ℕ) (s : State) → Ready j s → (p : PlanState) → StandsFor j s p
+      → reasonsFrom k most p ≡ reasonsOf (planFrom (ruleOf rule) j most s)
+  unfolding reasonsFrom reasonsOf planFrom actionsOf
+  driven-reasons zero s ready p h = refl
+  driven-reasons (suc most) s ready p h =
+      let at : p .buffers .next ≡ s .next = h .holds .read in
+      let actions = actionsOf (ruleOf rule) j s in
+      let after = playRound j s actions in
+      by-test (ltb (s .next) (refCount j))
+      (λ y. rw (at, y, reasonsFrom, planFrom) (ap₂ (λ (a l : List ℕ). a ++ l) (reasons-are s ready p h)
+      (driven-reasons most after (ready-after j s actions after ready (plan-round (ruleOf rule) (lawful-of rule) j sound s ready)) (roundFrom k p)
+      (stands-after s ready p h))))
+      (λ f. rw (at, f, reasonsFrom, planFrom) refl)

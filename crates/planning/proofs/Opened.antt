@@ -6,7 +6,7 @@ use Prim.Native.Nat.{ℕ, suc, _≤_, _<_}
 use native.Mathlib.Omega.{arith}
 use lib.ListN.{length, getD, take, replicate, length-take, length-replicate, getD-replicate}
 use lib.Seq.{getD-take}
-use Rattle.bits.specs.Bits.{bytes}
+use Rattle.bits.specs.Bits.{bytes, laid}
 use Rattle.bits.proofs.Logic.{clash, getD-same}
 use Rattle.job.specs.Meaning.{jobOf, Fits}
 use Rattle.job.specs.declared.Job.{Job as Stored}
@@ -14,6 +14,7 @@ use Rattle.model.specs.Job.{Job, Sound, diskCount, blockCount, diskOf, refAt}
 use Rattle.model.specs.Playing.{Schedule, noneResident, start}
 use Rattle.model.specs.Rules.{distance}
 use Rattle.model.specs.Plans.{planOf, scheduleOf}
+use Rattle.model.specs.Page.{reasonsOf}
 use Rattle.model.specs.Sheet.{sheetBits}
 use Rattle.model.proofs.Rounds.{ready-start}
 use Rattle.model.proofs.Buffers.{none-resident, load-none}
@@ -29,12 +30,12 @@ use Rattle.choosing.specs.declared.Rule.{Rule}
 use Rattle.choosing.specs.declared.Rule.the-variants.{Short, Sparing}
 use Rattle.choosing.proofs.Right.{Listed, Pointer, DiskRight, Right, Forward}
 use Rattle.choosing.proofs.PointerRight.{forward-ahead, forward-made}
-use Rattle.planning.specs.Driving.{noActs, drivenFrom}
+use Rattle.planning.specs.Driving.{noActs, drivenFrom, reasonsFrom}
 use Rattle.planning.specs.Planning.{totalsOf, plansOf}
 use Rattle.planning.specs.declared.Totals.{Totals}
 use Rattle.planning.specs.Sized.{Sized, Kept}
 use Rattle.planning.proofs.TurnsRight.{inputOf, StandsFor}
-use Rattle.planning.proofs.Driven.{driven-is}
+use Rattle.planning.proofs.Driven.{driven-is, driven-reasons}
 use Rattle.planning.proofs.RestOfPlan.{inputWith, stateWith}
 
 -- a desk and steps of zeros
@@ -92,7 +93,7 @@ module _ (j : Job) (sound : Sound j) (disks : List ℕ) (same : (b : ℕ) → b 
   }
 
   pub stands-start : StandsFor j (start j) (stateWith emptyBuffers (opened disks (j .refs) noDesk) noActs)
-  stands-start = record { holds = holds-start j (sound .fewDisks); right = right-start; rows = refl; longFetched = refl; longDiscarded = refl }
+  stands-start = record { holds = holds-start j (sound .fewDisks); right = right-start; rows = refl; longFetched = refl; longDiscarded = refl; longReasons = refl }
 
   pub forward-start : Forward j (stepped disks (j .refs) noSteps)
   forward-start =
@@ -173,7 +174,7 @@ module _ (c : Stored) (fits : Fits c) where
       zero-sheet,
     )
 
-    -- and what it drives
+    -- what it drives,
     pub drive-gives : drivenFrom (inputWith slots refs steps rule) (c .count) (stateWith b desk noActs) ≡ scheduleOf (ruleOf rule) (jobOf c)
     unfolding jobOf scheduleOf planOf
     drive-gives =
@@ -182,6 +183,17 @@ module _ (c : Stored) (fits : Fits c) where
         (driven-is rule (jobOf c) (fits .sound) (forward-start (jobOf c) (fits .sound) (c .disk) on-disk) (length refs) (start (jobOf c))
         (ready-start (jobOf c) (fits .sound .fewBlocks)) (stateWith emptyBuffers (opened (c .disk) refs noDesk) noActs)
         (stands-start (jobOf c) (fits .sound) (c .disk) on-disk))
+
+    -- and for which reasons
+    pub drive-reasons : (lent : List ℕ) {reasons : List ℕ} → reasons ≡ laid (reasonsFrom (inputWith slots refs steps rule) (c .count) (stateWith b desk noActs)) lent
+        → reasons ≡ laid (reasonsOf (planOf (ruleOf rule) (jobOf c))) lent
+    unfolding jobOf planOf
+    drive-reasons lent h =
+        h ∙ ap (λ (n : ℕ). laid (reasonsFrom (inputWith slots refs steps rule) n (stateWith b desk noActs)) lent) refs-lent
+        ∙ ap (λ (l : List ℕ). laid l lent) (rw (eb, ed, es)
+        (driven-reasons rule (jobOf c) (fits .sound) (forward-start (jobOf c) (fits .sound) (c .disk) on-disk) (length refs) (start (jobOf c))
+        (ready-start (jobOf c) (fits .sound .fewBlocks)) (stateWith emptyBuffers (opened (c .disk) refs noDesk) noActs)
+        (stands-start (jobOf c) (fits .sound) (c .disk) on-disk)))
 
   -- what `run` gives
   pub run-gives : {a b : Totals} {x y : List ℕ} {one two : Schedule} → one ≡ scheduleOf (ruleOf Short) (jobOf c)

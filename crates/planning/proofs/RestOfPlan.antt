@@ -1,17 +1,19 @@
 -- The loops of `drive`: what is written so far and what would be driven from here on are the whole plan. Assumes nothing.
-use mathlib.Core.Path.{_≡_, refl, sym, ap, _∙_, subst}
+use mathlib.Core.Path.{_≡_, refl, sym, ap, ap₂, _∙_, subst}
 use mathlib.Core.Logic.{_⊎_, ⊎-elim}
 use mathlib.Core.Bool.{true, false}
 use mathlib.Core.List.{List, [], _∷_, _++_, append-nil, append-assoc}
-use Prim.Native.Nat.{ℕ, zero, suc, _+_, _-_, _≤_, _<_}
+use Prim.Native.Nat.{ℕ, zero, suc, _+_, _-_, _*_, _≤_, _<_}
+use native.Mathlib.Nat.{suc-mul, zero-mul}
 use native.Mathlib.Numerals.{add-one}
 use native.Mathlib.Omega.{arith}
 use lib.Dec.{ltb}
-use lib.ListN.{length, getD, replicate}
+use lib.ListN.{length, getD, replicate, length-append}
 use borrow.Author.Tests.{lt-ltb, le-ltb}
 use Rattle.bits.proofs.Logic.{and-true, and-false-left, and-false-right}
-use Rattle.bits.specs.Bits.{bytes}
-use Rattle.bits.specs.Fields.{putBits}
+use Rattle.bits.specs.Bits.{bytes, laid}
+use Rattle.bits.specs.Fields.{putBits, laidAt}
+use Rattle.bits.proofs.Fields.{laid-then, length-laid}
 use Rattle.model.specs.Playing.{Schedule}
 use Rattle.model.specs.Sheet.{roundBits, sheetBits}
 use Rattle.lookup.specs.Desk.{cell}
@@ -23,9 +25,10 @@ use Rattle.choosing.specs.declared.Choice.the-variants.{IntoEmpty, OverMinBlock
 use Rattle.acting.specs.Acting.{noted, takenIn}
 use Rattle.writing.specs.Heading.{headed}
 use Rattle.writing.specs.Tallying.{tallied}
-use Rattle.writing.specs.Writing.{actionsIn}
+use Rattle.writing.specs.Writing.{actionsIn, reasonsIn}
+use Rattle.writing.proofs.Reasons.{reasons-length}
 use Rattle.planning.specs.Driving.{PlanInput, PlanState, choiceAt, buffersAfter, deskAfter, afterTurn, turns, readNext, canRead}
-use Rattle.planning.specs.Driving.{readFrom, allActed, roundFrom, drivenFrom, endFrom}
+use Rattle.planning.specs.Driving.{readFrom, allActed, roundFrom, drivenFrom, reasonsFrom, endFrom}
 use Rattle.planning.specs.Planning.{totalsOf}
 use Rattle.planning.specs.Sized.{Sized, Kept}
 use Rattle.planning.proofs.Sizes.{turn-kept, read-kept}
@@ -38,6 +41,11 @@ module _ (k : PlanInput) (p : PlanState) where
   unfolding drivenFrom
   driven-more most due = rw (lt-ltb (p .buffers .next) (length (k .refs)) due, drivenFrom)
 
+  reasons-more : (most : ℕ) → p .buffers .next < length (k .refs)
+      → reasonsFrom k (suc most) p ≡ reasonsIn (allActed k p .acts) (length (k .slots)) ++ reasonsFrom k most (roundFrom k p)
+  unfolding reasonsFrom
+  reasons-more most due = rw (lt-ltb (p .buffers .next) (length (k .refs)) due, reasonsFrom)
+
   end-more : (most : ℕ) → p .buffers .next < length (k .refs) → endFrom k (suc most) p ≡ endFrom k most (roundFrom k p)
   unfolding endFrom
   end-more most due = rw (lt-ltb (p .buffers .next) (length (k .refs)) due, endFrom)
@@ -47,6 +55,11 @@ module _ (k : PlanInput) (p : PlanState) where
   driven-none zero over = refl
   driven-none (suc most) over = rw (le-ltb (p .buffers .next) (length (k .refs)) over, drivenFrom)
 
+  reasons-none : (most : ℕ) → length (k .refs) ≤ p .buffers .next → reasonsFrom k most p ≡ []
+  unfolding reasonsFrom
+  reasons-none zero over = refl
+  reasons-none (suc most) over = rw (le-ltb (p .buffers .next) (length (k .refs)) over, reasonsFrom)
+
   end-none : (most : ℕ) → length (k .refs) ≤ p .buffers .next → endFrom k most p ≡ p
   unfolding endFrom
   end-none zero over = refl
@@ -55,6 +68,10 @@ module _ (k : PlanInput) (p : PlanState) where
   driven-zero : drivenFrom k 0 p ≡ []
   unfolding drivenFrom
   driven-zero = refl
+
+  reasons-zero : reasonsFrom k 0 p ≡ []
+  unfolding reasonsFrom
+  reasons-zero = refl
 
   end-zero : endFrom k 0 p ≡ p
   unfolding endFrom
@@ -67,14 +84,22 @@ inputWith slots refs steps rule = record { slots = slots; refs = refs; steps = s
 abbrev pub stateWith : Buffers → List (List ℕ) → List (List ℕ) → PlanState
 stateWith b desk acts = record { buffers = b; desk = desk; acts = acts }
 
+-- The reasons of the rounds so far are laid into their slice, which held `lent`.
+pub record Laid (k : PlanInput) (most : ℕ) (p₀ p : PlanState) (lent reasons : List ℕ) (played : ℕ) : Type 0 where
+  pub soFar : List ℕ
+  pub bytes : reasons ≡ laid soFar lent
+  pub long : length soFar ≡ played * length (k .slots)
+  pub all : soFar ++ reasonsFrom k (most - played) p ≡ reasonsFrom k most p₀
+
 -- Before a round: the plan from p₀ on, `most` rounds at most, has come to p.
-pub record BeforeRound (k : PlanInput) (most : ℕ) (p₀ p : PlanState) (counts sheet : List ℕ) (played at : ℕ) : Type 0 where
+pub record BeforeRound (k : PlanInput) (most : ℕ) (p₀ p : PlanState) (lent counts sheet reasons : List ℕ) (played at : ℕ) : Type 0 where
   pub sized : Sized k
   pub kept : Kept k p
   pub fewRounds : most ≤ 2048
   pub within : played ≤ most
   pub done : Schedule
   pub written : Written done counts sheet played at
+  pub reasoned : Laid k most p₀ p lent reasons played
   pub whole : done ++ drivenFrom k (most - played) p ≡ drivenFrom k most p₀
   pub end : endFrom k (most - played) p ≡ endFrom k most p₀
 
@@ -93,9 +118,51 @@ pub record BeforeRead (k : PlanInput) (p₀ p : PlanState) : Type 0 where
   pub enough : length (k .refs) ≤ p .buffers .next + left
   pub rest : readFrom k left p ≡ readFrom k (length (k .refs)) p₀
 
-module _ {k : PlanInput} {most : ℕ} {p₀ : PlanState} where
+-- no reason so far, those of one round more, and those of all
+module _ {k : PlanInput} {most : ℕ} {p₀ : PlanState} {lent : List ℕ} where
+  laid-first : Laid k most p₀ p₀ lent lent 0
+  unfolding laid
+  laid-first = record {
+    soFar = [];
+    bytes = refl;
+    long = let z = zero-mul (length (k .slots)) in sym z;
+    all = ap (λ (n : ℕ). reasonsFrom k n p₀) (let e : most - 0 ≡ most = omega arith in e);
+  }
+
+  module _ {p : PlanState} {reasons : List ℕ} {played : ℕ} (h : Laid k most p₀ p lent reasons played) where
+    laid-next : played < most → p .buffers .next < length (k .refs) → {q : PlanState} → q ≡ roundFrom k p → (acts : List (List ℕ))
+        → acts ≡ allActed k p .acts → {reasons′ : List ℕ} → reasons′ ≡ laidAt (played * length (k .slots)) (reasonsIn acts (length (k .slots))) reasons
+        → Laid k most p₀ q lent reasons′ (played + 1)
+    unfolding laidAt
+    laid-next more due {q} eq acts ea er =
+        let disks = length (k .slots) in
+        let round = reasonsIn acts disks in
+        let left : most - played ≡ suc (most - (played + 1)) = omega arith in
+        let many = reasons-length acts disks in
+        let sum = length-append (h .soFar) round in
+        let long = h .long in
+        let one = suc-mul played disks in
+        let rest : reasonsFrom k (most - played) p ≡ round ++ reasonsFrom k (most - (played + 1)) q =
+        ap (λ (n : ℕ). reasonsFrom k n p) left ∙ reasons-more k p (most - (played + 1)) due
+        ∙ ap₂ (λ (x : List (List ℕ)) (y : PlanState). reasonsIn x disks ++ reasonsFrom k (most - (played + 1)) y) (sym ea) (sym eq) in
+        record {
+          soFar = h .soFar ++ round;
+          bytes = er ∙ ap (laidAt (played * disks) round) (h .bytes) ∙ laid-then 0 (played * disks) (h .soFar) round lent (omega (arith, long));
+          long = rw (add-one played, one) (omega (arith, many, sum, long));
+          all = append-assoc (h .soFar) round (reasonsFrom k (most - (played + 1)) q) ∙ ap (λ (l : List ℕ). h .soFar ++ l) (sym rest) ∙ h .all;
+        }
+
+    pub laid-long : length reasons ≡ length lent
+    unfolding laidAt
+    laid-long = ap length (h .bytes) ∙ length-laid 0 (h .soFar) lent
+
+    laid-last : reasonsFrom k (most - played) p ≡ [] → reasons ≡ laid (reasonsFrom k most p₀) lent
+    laid-last none =
+        h .bytes ∙ ap (λ (l : List ℕ). laid l lent) (sym (append-nil (h .soFar)) ∙ ap (λ (l : List ℕ). h .soFar ++ l) (sym none) ∙ h .all)
+
+module _ {k : PlanInput} {most : ℕ} {p₀ : PlanState} {lent : List ℕ} where
   pub round-first : Sized k → Kept k p₀ → most ≤ 2048 → {sheet : List ℕ} → sheet ≡ replicate 40968 0
-      → BeforeRound k most p₀ p₀ (replicate 8 0) sheet 0 12
+      → BeforeRound k most p₀ p₀ lent (replicate 8 0) sheet lent 0 12
   round-first sized kept few {sheet} e =
       let all : most - 0 ≡ most = omega arith in
       record {
@@ -105,18 +172,20 @@ module _ {k : PlanInput} {most : ℕ} {p₀ : PlanState} where
         within = omega arith;
         done = [];
         written = written-none sheet e;
+        reasoned = laid-first;
         whole = ap (λ (n : ℕ). drivenFrom k n p₀) all;
         end = ap (λ (n : ℕ). endFrom k n p₀) all;
       }
 
-  module _ {p : PlanState} {counts sheet : List ℕ} {played at : ℕ} (h : BeforeRound k most p₀ p counts sheet played at) where
-    -- the round is played, counted and written
+  module _ {p : PlanState} {counts sheet reasons : List ℕ} {played at : ℕ} (h : BeforeRound k most p₀ p lent counts sheet reasons played at) where
+    -- the round is played, counted and written, and its reasons laid
     pub round-next : played < most → p .buffers .next < length (k .refs) → {q : PlanState} → Kept k q → q ≡ roundFrom k p
         → (acts : List (List ℕ)) → acts ≡ allActed k p .acts → (disks : ℕ) → disks ≡ length (k .slots)
-        → {counts′ sheet′ : List ℕ} {at′ : ℕ} → counts′ ≡ tallied counts acts disks
+        → {counts′ sheet′ reasons′ : List ℕ} {at′ : ℕ} → counts′ ≡ tallied counts acts disks
         → sheet′ ≡ putBits sheet at (roundBits (actionsIn acts disks)) → at′ ≡ at + length (roundBits (actionsIn acts disks))
-        → BeforeRound k most p₀ q counts′ sheet′ (played + 1) at′
-    round-next more due {q} kept eq acts ea disks ed ec es et =
+        → reasons′ ≡ laidAt (played * disks) (reasonsIn acts disks) reasons
+        → BeforeRound k most p₀ q lent counts′ sheet′ reasons′ (played + 1) at′
+    round-next more due {q} kept eq acts ea disks ed ec es et er =
         let few = h .fewRounds in
         let eight = h .sized .fewDisks in
         let left : most - played ≡ suc (most - (played + 1)) = omega arith in
@@ -134,6 +203,8 @@ module _ {k : PlanInput} {most : ℕ} {p₀ : PlanState} where
           within = omega arith;
           done = h .done ++ (actionsIn acts disks ∷ []);
           written = written-more (h .written) acts disks (omega (arith, eight, ed)) (omega (arith, few)) ec es et;
+          reasoned = laid-next (h .reasoned) more due eq acts ea
+              (er ∙ ap (λ (n : ℕ). laidAt (played * n) (reasonsIn acts n) reasons) ed);
           whole = append-assoc (h .done) (actionsIn acts disks ∷ []) (drivenFrom k (most - (played + 1)) q)
               ∙ ap (λ (l : Schedule). h .done ++ l) (sym rest) ∙ h .whole;
           end = ap (endFrom k (most - (played + 1))) eq ∙ sym (end-more k p (most - (played + 1)) due) ∙ ap (λ (n : ℕ). endFrom k n p) (sym left)
@@ -142,15 +213,18 @@ module _ {k : PlanInput} {most : ℕ} {p₀ : PlanState} where
 
     -- No round is left: the rounds are played, or the references read.
     abbrev pub NoneLeft : Type 0
-    NoneLeft = (drivenFrom k (most - played) p ≡ []) × (endFrom k (most - played) p ≡ p)
+    NoneLeft = (drivenFrom k (most - played) p ≡ []) × (reasonsFrom k (most - played) p ≡ []) × (endFrom k (most - played) p ≡ p)
 
     pub all-played : most ≤ played → NoneLeft
     all-played over =
-        let none : most - played ≡ 0 = omega arith in
-        (ap (λ (n : ℕ). drivenFrom k n p) none ∙ driven-zero k p, ap (λ (n : ℕ). endFrom k n p) none ∙ end-zero k p)
+        let none : most - played ≡ 0 = omega arith in (
+          ap (λ (n : ℕ). drivenFrom k n p) none ∙ driven-zero k p,
+          ap (λ (n : ℕ). reasonsFrom k n p) none ∙ reasons-zero k p,
+          ap (λ (n : ℕ). endFrom k n p) none ∙ end-zero k p,
+        )
 
     pub all-read : length (k .refs) ≤ p .buffers .next → NoneLeft
-    all-read over = (driven-none k p (most - played) over, end-none k p (most - played) over)
+    all-read over = (driven-none k p (most - played) over, reasons-none k p (most - played) over, end-none k p (most - played) over)
 
     module _ (none : NoneLeft) where
       done-is : h .done ≡ drivenFrom k most p₀
@@ -165,7 +239,10 @@ module _ {k : PlanInput} {most : ℕ} {p₀ : PlanState} where
           ∙ ap (λ (s : Schedule). bytes 40968 (sheetBits s)) done-is
 
       pub last-desk : p .desk ≡ endFrom k most p₀ .desk
-      last-desk = ap (λ (x : PlanState). x .desk) (sym (none .1) ∙ h .end)
+      last-desk = ap (λ (x : PlanState). x .desk) (sym (none .2) ∙ h .end)
+
+      pub last-reasons : reasons ≡ laid (reasonsFrom k most p₀) lent
+      last-reasons = laid-last (h .reasoned) (none .1)
 
 -- one disk's turn, by its choice
 module _ (k : PlanInput) (d : ℕ) (b : Buffers) (desk acts : List (List ℕ)) (c : Choice) where

@@ -17,7 +17,7 @@ use Rattle.playing.specs.declared.Buffers.{Buffers}
 use Rattle.choosing.specs.declared.Choice.{Choice}
 use Rattle.choosing.specs.declared.Choice.the-variants.{IntoEmpty, OverMinBlock, MinBlockSooner, Waits, NoneMissing}
 use Rattle.choosing.proofs.Chosen.{Placed, choice-placed}
-use Rattle.acting.specs.Acting.{Small, reasonOf, column, noted, takenIn}
+use Rattle.acting.specs.Acting.{Small, column, noted, takenIn}
 use Rattle.acting.proofs.AfterChoice.{rows-after, column-fetched, column-discarded, column-rows}
 use Rattle.planning.specs.Driving.{PlanInput, PlanState, choiceAt, afterTurn, readNext}
 use Rattle.planning.specs.Sized.{Sized, Kept}
@@ -131,7 +131,7 @@ module _ (k : PlanInput) (sized : Sized k) where
     turn-kept (IntoEmpty u place) e =
         let f = chosen-placed (IntoEmpty u place) e in
         let small = u-small u (f .0) (f .1) in
-        taken-kept (fetchInto (p .buffers) u d) u place u 512 (reasonOf (IntoEmpty u place)) small (omega (arith, small)) (lit< tt)
+        taken-kept (fetchInto (p .buffers) u d) u place u 512 0 small (omega (arith, small)) (lit< tt)
         (λ x q. set-within (p .buffers .held) d (count + 1) x (getD (k .slots) x 0) (kept .held x q)
         (λ same. let free = f .2 in let slots = ap (λ (y : ℕ). getD (k .slots) y 0) same in omega (arith, free, slots)))
     turn-kept (OverMinBlock u place) e =
@@ -141,12 +141,12 @@ module _ (k : PlanInput) (sized : Sized k) where
         let full = f .2 in
         let out = below-any 512 (helds (p .desk)) (lit< tt) (kept .smallHelds) place in
         taken-kept (replaceIn (p .buffers) (cell (p .desk) 2 place) u d) u place u (cell (p .desk) 2 place)
-        (reasonOf (OverMinBlock u place)) small (omega (arith, small))
+        1 small (omega (arith, small))
         (omega (arith, out))
         (λ x q. replaced-held (p .buffers) (cell (p .desk) 2 place) u d x (omega (arith, one, full)) (getD (k .slots) x 0) (kept .held x q))
-    turn-kept MinBlockSooner e = idle-kept (reasonOf MinBlockSooner)
-    turn-kept Waits e = idle-kept (reasonOf Waits)
-    turn-kept NoneMissing e = idle-kept (reasonOf NoneMissing)
+    turn-kept MinBlockSooner e = idle-kept 2
+    turn-kept Waits e = idle-kept 3
+    turn-kept NoneMissing e = idle-kept 4
 
   -- The sizes after a reference is read.
   pub read-kept : (p : PlanState) → Kept k p → p .buffers .next < length (k .refs) → Kept k (readNext k p)

@@ -14,6 +14,7 @@ use Rattle.model.specs.Job.{Job, Sound, diskCount, blockCount, refCount, slotsO
 use Rattle.model.specs.Playing.{Action, idle, fetch, replace, State, isResident, load, act, actAll, fetched, discarded}
 use Rattle.model.specs.Rules.{overMinBlock, action, distance, distanceNow}
 use Rattle.model.specs.Rules.{Choice as RuleChoice, Rule as JobRule}
+use Rattle.model.specs.Page.{reason}
 use Rattle.model.specs.Valid.{Block, Legal, LegalAll, Ready}
 use Rattle.model.proofs.Buffers.{legal-take, taken, load-round}
 use Rattle.model.proofs.Choosing.{Lawful, short-lawful, sparing-lawful, nothing, into, sooner, waiting, over, RuleView}
@@ -33,8 +34,8 @@ use Rattle.choosing.proofs.DiskStaysRight.{SameOn, disk-same, disk-elsewhere, l
 use Rattle.choosing.proofs.DiskStaysRight.{pointer-over, listed-into, listed-over, places-elsewhere}
 use Rattle.choosing.proofs.PointerRight.{Moved, forward-ahead}
 use Rattle.choosing.proofs.Chosen.{Chooses, choice-is, choice-placed, Placed}
-use Rattle.acting.specs.Acting.{reasonOf, noted, takenIn, column}
-use Rattle.acting.proofs.AfterChoice.{rows-after, column-fetched, column-discarded, column-rows}
+use Rattle.acting.specs.Acting.{noted, takenIn, column}
+use Rattle.acting.proofs.AfterChoice.{rows-after, column-fetched, column-discarded, column-reason, column-rows}
 use Rattle.writing.specs.Writing.{actionOf, actionIn}
 use Rattle.writing.proofs.Packing.{action-idle, action-fetch, action-replace}
 use Rattle.planning.specs.Driving.{PlanInput, PlanState, choiceAt, afterTurn, turns}
@@ -110,11 +111,13 @@ pub record StandsFor (j : Job) (s : State) (p : PlanState) : Type 0 where
   pub rows : length (p .acts) ≡ 3
   pub longFetched : length (row (p .acts) 0) ≡ 8
   pub longDiscarded : length (row (p .acts) 1) ≡ 8
+  pub longReasons : length (row (p .acts) 2) ≡ 8
 
 -- What is known once the disks below d have acted, in a round from the state s.
 pub record AfterTurns (rule : JobRule) (j : Job) (s : State) (d : ℕ) (p : PlanState) : Type 0 where
   pub stands : StandsFor j (midState rule j s d) p
   pub chosen : (e : ℕ) → e < d → actionIn (p .acts) e ≡ action (rule j s e)
+  pub why : (e : ℕ) → e < d → cell (p .acts) 2 e ≡ reason (rule j s e)
 
 module _ (rule : JobRule) (lawful : Lawful rule) (j : Job) (sound : Sound j) (s : State) (ready : Ready j s) (d : ℕ) (l : d < diskCount j)
     {p : PlanState} (h : AfterTurns rule j s d p) where
@@ -131,16 +134,18 @@ module _ (rule : JobRule) (lawful : Lawful rule) (j : Job) (sound : Sound j) (s 
       → ((e i : ℕ) → e ≢ d → e < diskCount j → i < 64 → getD (helds desk) (e * 64 + i) 0 ≡ getD (helds (p .desk)) (e * 64 + i) 0)
       → ((c : ℕ) → diskOf j c ≢ d → getD (laters desk) c 0 ≡ getD (laters (p .desk)) c 0)
       → nexts desk ≡ nexts (p .desk) → length desk ≡ 4 → length (helds desk) ≡ 512 → length (looks desk) ≡ 512 → length (laters desk) ≡ 512
-      → (f z r : ℕ) → actionOf f z ≡ a
+      → (f z r : ℕ) → actionOf f z ≡ a → r ≡ reason (rule j s d)
       → AfterTurns rule j s (suc d) (record { buffers = b; desk = desk; acts = column (p .acts) d f z r })
   unfolding midState
-  after-action {b} {desk} legal′ holds own looks′ places laters′ nexts′ rows long₁ long₂ long₃ f z r is =
+  after-action {b} {desk} legal′ holds own looks′ places laters′ nexts′ rows long₁ long₂ long₃ f z r is why =
       let e = mid-next rule lawful j sound s ready d l in
       let eight = sound .fewDisks in
       let lf = h .stands .longFetched in
       let ld = h .stands .longDiscarded in
+      let lr = h .stands .longReasons in
       let ef = column-fetched (p .acts) d f z r (h .stands .rows) in
       let ez = column-discarded (p .acts) d f z r (h .stands .rows) in
+      let er = column-reason (p .acts) d f z r (h .stands .rows) in
       record {
         stands = record {
           holds = holds-same j b (acted (midState rule j s d) a) (midState rule j s (suc d)) (sym e) refl holds;
@@ -163,6 +168,7 @@ module _ (rule : JobRule) (lawful : Lawful rule) (j : Job) (sound : Sound j) (s 
           rows = column-rows (p .acts) d f z r (h .stands .rows);
           longFetched = ap length ef ∙ length-set (row (p .acts) 0) d f ∙ lf;
           longDiscarded = ap length ez ∙ length-set (row (p .acts) 1) d z ∙ ld;
+          longReasons = ap length er ∙ length-set (row (p .acts) 2) d r ∙ lr;
         };
         chosen = λ k kl. by-test (eqb k d)
             (λ y. let same = eqb-true k d y in
@@ -171,19 +177,25 @@ module _ (rule : JobRule) (lawful : Lawful rule) (j : Job) (sound : Sound j) (s 
             (λ n. let other = eqb-false k d n in
             rw (ef, ez, getD-set-other (row (p .acts) 0) d k f 0 other, getD-set-other (row (p .acts) 1) d k z 0 other)
             (h .chosen k (lib.Arith.lt-of-le-ne (omega arith) other)));
+        why = λ k kl. by-test (eqb k d)
+            (λ y. let same = eqb-true k d y in
+            rw (same, er, getD-set-same (row (p .acts) 2) d r 0 (omega (arith, lr))) why)
+            (λ n. let other = eqb-false k d n in
+            rw (er, getD-set-other (row (p .acts) 2) d k r 0 other) (h .why k (lib.Arith.lt-of-le-ne (omega arith) other)));
       }
 
   -- nothing is fetched
-  step-idle : a ≡ idle → (r : ℕ) → AfterTurns rule j s (suc d) (record { buffers = p .buffers; desk = p .desk; acts = column (p .acts) d 512 512 r })
+  step-idle : a ≡ idle → (r : ℕ) → r ≡ reason (rule j s d)
+      → AfterTurns rule j s (suc d) (record { buffers = p .buffers; desk = p .desk; acts = column (p .acts) d 512 512 r })
   unfolding midState act Legal
-  step-idle e r =
+  step-idle e r why =
       after-action (subst (Legal j marks d) (sym e) tt)
       (subst (λ (x : Action). Holds j (p .buffers) (acted (midState rule j s d) x)) (sym e) (h .stands .holds))
       (subst (λ (x : Action). DiskRight j (act marks x) (s .next) d (helds (p .desk)) (getD (looks (p .desk)) d 0) (laters (p .desk))) (sym e)
       (h .stands .right .disks d l))
       (λ k n. refl) (λ k i n kl q. refl) (λ c n. refl) refl (h .stands .right .rows) (h .stands .right .longHelds) (h .stands .right .longLooks)
       (h .stands .right .longLaters)
-      512 512 r (action-idle 512 512 refl ∙ sym e)
+      512 512 r (action-idle 512 512 refl ∙ sym e) why
 
   long-marks : blockCount j ≤ length marks
   long-marks =
@@ -216,10 +228,10 @@ module _ (rule : JobRule) (lawful : Lawful rule) (j : Job) (sound : Sound j) (s 
     own-step : {b : Buffers} → Legal j marks d a → Holds j b (acted (midState rule j s d) a) → (place : ℕ) → d * 64 ≤ place → place < d * 64 + 64
         → Listed j (act marks a) d (set (helds (p .desk)) place u) (load j (act marks a) d)
         → Pointer j (act marks a) (s .next) d look (laters (p .desk))
-        → (f z r : ℕ) → actionOf f z ≡ a
+        → (f z r : ℕ) → actionOf f z ≡ a → r ≡ reason (rule j s d)
         → AfterTurns rule j s (suc d)
         (record { buffers = b; desk = takenIn (j .refs) (b .resident) steps d u place (p .desk); acts = column (p .acts) d f z r })
-    own-step {b} legal′ holds place lo hi listed pointer f z r is =
+    own-step {b} legal′ holds place lo hi listed pointer f z r is why =
         let t = rows-after (j .refs) (b .resident) steps d u place (p .desk) (h .stands .right .rows) (sound .fewRefs) (forward-ahead forward) in
         let desk = takenIn (j .refs) (b .resident) steps d u place (p .desk) in
         let longLook = h .stands .right .longLooks in
@@ -240,17 +252,17 @@ module _ (rule : JobRule) (lawful : Lawful rule) (j : Job) (sound : Sound j) (s 
         (ap length (t .newHelds) ∙ length-set (helds (p .desk)) place u ∙ h .stands .right .longHelds)
         (ap length (t .newLooks) ∙ length-set (looks (p .desk)) d (t .end) ∙ longLook)
         (moved .long ∙ h .stands .right .longLaters)
-        f z r is
+        f z r is why
 
     -- U enters an empty slot
-    step-into : a ≡ fetch u → load j marks d < slotsOf j d → (r : ℕ)
+    step-into : a ≡ fetch u → load j marks d < slotsOf j d → (r : ℕ) → r ≡ reason (rule j s d)
         → AfterTurns rule j s (suc d) (record {
           buffers = fetchInto (p .buffers) u d;
           desk = takenIn (j .refs) (fetchInto (p .buffers) u d .resident) steps d u (d * 64 + load j marks d) (p .desk);
           acts = column (p .acts) d u 512 r;
         })
     unfolding Legal
-    step-into e free r =
+    step-into e free r why =
         let new = pointed sound here more in
         let slots = sound .fewSlots d l in
         own-step (subst (Legal j marks d) (sym e) new)
@@ -260,18 +272,18 @@ module _ (rule : JobRule) (lawful : Lawful rule) (j : Job) (sound : Sound j) (s 
         (subst (λ (x : Action). Listed j (act marks x) d (set (helds (p .desk)) (d * 64 + load j marks d) u) (load j (act marks x) d)) (sym e)
         (listed-into sound here more l long-marks (h .stands .right .longHelds) free))
         (subst (λ (x : Action). Pointer j (act marks x) (s .next) d look (laters (p .desk))) (sym e) (pointer-into sound here more))
-        u 512 r (action-fetch u 512 (not-none u small-u) refl ∙ sym e)
+        u 512 r (action-fetch u 512 (not-none u small-u) refl ∙ sym e) why
 
     -- U takes the place of the resident at `place`
     step-over : (place : ℕ) → d * 64 ≤ place → place < d * 64 + load j marks d → a ≡ replace u (cell (p .desk) 2 place)
-        → look ≤ distance (j .refs) (s .next) (cell (p .desk) 2 place) → (r : ℕ)
+        → look ≤ distance (j .refs) (s .next) (cell (p .desk) 2 place) → (r : ℕ) → r ≡ reason (rule j s d)
         → AfterTurns rule j s (suc d) (record {
           buffers = replaceIn (p .buffers) (cell (p .desk) 2 place) u d;
           desk = takenIn (j .refs) (replaceIn (p .buffers) (cell (p .desk) 2 place) u d .resident) steps d u place (p .desk);
           acts = column (p .acts) d u (cell (p .desk) 2 place) r;
         })
     unfolding Legal
-    step-over place lo hi e far r =
+    step-over place lo hi e far r why =
         let v = cell (p .desk) 2 place in
         let new = pointed sound here more in
         let at : d * 64 + (place - d * 64) ≡ place = omega arith in
@@ -287,7 +299,7 @@ module _ (rule : JobRule) (lawful : Lawful rule) (j : Job) (sound : Sound j) (s 
         (subst (λ (x : Action). Listed j (act marks x) d (set (helds (p .desk)) place u) (load j (act marks x) d)) (sym e)
         (listed-over sound here more l long-marks (h .stands .right .longHelds) loads place lo hi))
         (subst (λ (x : Action). Pointer j (act marks x) (s .next) d look (laters (p .desk))) (sym e) (pointer-over sound here more v far))
-        u v r (action-replace u v (not-none u small-u) (not-none v small-v) ∙ sym e)
+        u v r (action-replace u v (not-none u small-u) (not-none v small-v) ∙ sym e) why
 
 -- a rule that replaces the min-block finds it no sooner than U
 over-far : (j : Job) (s : State) (d u v : ℕ) (c : RuleChoice) → RuleView j s d c → c ≡ overMinBlock u v → distanceNow j s u ≤ distanceNow j s v
@@ -356,17 +368,18 @@ module _ (rule : Rule) (j : Job) (sound : Sound j) {steps : List (List ℕ)} (fo
         let same = f .1 in
         let at : place ≡ d * 64 + load j (midState r j s d .resident) d = (let n = counted in let q = f .3 in omega (arith, n, q)) in
         rw (at, same) (step-into r lawful j sound s ready d l h forward (f .0) (ap action (sym (rule-is (IntoEmpty u place) e)) ∙ ap fetch same)
-        (let n = counted in let q = f .2 in omega (arith, n, q)) (reasonOf (IntoEmpty u place)))
+        (let n = counted in let q = f .2 in omega (arith, n, q)) 0
+        (ap reason (rule-is (IntoEmpty u place) e)))
     turn-step (OverMinBlock u place) e =
         let f = placed (OverMinBlock u place) e in
         let same = f .1 in
         let v = cell (p .desk) 2 place in
         rw same (step-over r lawful j sound s ready d l h forward (f .0) place (f .3) (let n = counted in let q = f .4 in omega (arith, n, q))
         (ap action (sym (rule-is (OverMinBlock u place) e)) ∙ ap (λ (x : ℕ). replace x v) same) (far-enough u place e)
-        (reasonOf (OverMinBlock u place)))
-    turn-step MinBlockSooner e = step-idle r lawful j sound s ready d l h (ap action (sym (rule-is MinBlockSooner e))) (reasonOf MinBlockSooner)
-    turn-step Waits e = step-idle r lawful j sound s ready d l h (ap action (sym (rule-is Waits e))) (reasonOf Waits)
-    turn-step NoneMissing e = step-idle r lawful j sound s ready d l h (ap action (sym (rule-is NoneMissing e))) (reasonOf NoneMissing)
+        1 (ap reason (rule-is (OverMinBlock u place) e)))
+    turn-step MinBlockSooner e = step-idle r lawful j sound s ready d l h (ap action (sym (rule-is MinBlockSooner e))) 2 (ap reason (rule-is MinBlockSooner e))
+    turn-step Waits e = step-idle r lawful j sound s ready d l h (ap action (sym (rule-is Waits e))) 3 (ap reason (rule-is Waits e))
+    turn-step NoneMissing e = step-idle r lawful j sound s ready d l h (ap action (sym (rule-is NoneMissing e))) 4 (ap reason (rule-is NoneMissing e))
 
   -- all turns
   pub at-disk : (p : PlanState) → AfterTurns r j s 0 p → (d : ℕ) → d ≤ diskCount j → AfterTurns r j s d (turns k d p)

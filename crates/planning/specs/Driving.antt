@@ -1,7 +1,7 @@
 -- A plan driven from a desk: what each disk's turn, the reading and each round change. `proofs/Driven.antt` leads from here to the model's plan.
 -- Assumes nothing.
 use mathlib.Core.Bool.{Bool, true, false, cond, _&&_}
-use mathlib.Core.List.{List, [], _∷_}
+use mathlib.Core.List.{List, [], _∷_, _++_}
 use Prim.Native.Nat.{ℕ, zero, suc}
 use lib.Dec.{ltb}
 use lib.ListN.{length, getD, replicate}
@@ -14,7 +14,7 @@ use Rattle.choosing.specs.declared.Rule.{Rule}
 use Rattle.choosing.specs.declared.Choice.{Choice}
 use Rattle.choosing.specs.declared.Choice.the-variants.{IntoEmpty, OverMinBlock, MinBlockSooner, Waits, NoneMissing}
 use Rattle.acting.specs.Acting.{noted, takenIn}
-use Rattle.writing.specs.Writing.{actionsIn}
+use Rattle.writing.specs.Writing.{actionsIn, reasonsIn}
 
 -- What does not change while a plan is driven: the slots of each disk, the references, the steps between them, and the rule.
 pub record PlanInput : Type 0 where
@@ -96,6 +96,15 @@ drivenFrom k zero p = []
 drivenFrom k (suc most) p =
     elim (ltb (p .buffers .next) (length (k .refs))) [
       | true ↦ actionsIn (allActed k p .acts) (length (k .slots)) ∷ drivenFrom k most (roundFrom k p)
+      | false ↦ []
+    ]
+
+-- the reasons for their actions,
+unfoldable pub reasonsFrom : PlanInput → ℕ → PlanState → List ℕ
+reasonsFrom k zero p = []
+reasonsFrom k (suc most) p =
+    elim (ltb (p .buffers .next) (length (k .refs))) [
+      | true ↦ reasonsIn (allActed k p .acts) (length (k .slots)) ++ reasonsFrom k most (roundFrom k p)
       | false ↦ []
     ]
 

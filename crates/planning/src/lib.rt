@@ -1,4 +1,4 @@
-// Both plans of a job: their rounds, their fetches and their sheets.
+// Both plans of a job: their rounds, their fetches, their sheets and the reasons for their actions.
 use choosing::Choice;
 use choosing::Rule;
 use job::Job;
@@ -9,13 +9,14 @@ use writing::Actions;
 ghost use mathlib.Core.Path.{_≡_};
 ghost use Prim.Native.Nat.{_≤_};
 ghost use lib.ListN.{replicate};
-ghost use Rattle.bits.specs.Bits.{bytes};
+ghost use Rattle.bits.specs.Bits.{bytes, laid};
 ghost use Rattle.job.specs.Meaning.{Fits, jobOf};
-ghost use Rattle.model.specs.Plans.{scheduleOf};
+ghost use Rattle.model.specs.Plans.{planOf, scheduleOf};
+ghost use Rattle.model.specs.Page.{reasonsOf};
 ghost use Rattle.model.specs.Sheet.{sheetBits};
 ghost use Rattle.choosing.specs.Choosing.{ruleOf};
 ghost use Rattle.choosing.specs.declared.Rule.the-variants.{Short, Sparing};
-ghost use Rattle.planning.specs.Driving.{PlanInput, PlanState, noActs, drivenFrom, endFrom};
+ghost use Rattle.planning.specs.Driving.{PlanInput, PlanState, noActs, drivenFrom, reasonsFrom, endFrom};
 ghost use Rattle.planning.specs.Sized.{Sized, Kept};
 ghost use Rattle.planning.specs.Planning.{totalsOf, plansOf};
 
@@ -32,8 +33,8 @@ pub struct Plans {
     pub sparing: Totals,
 }
 
-// A plan from any buffers and their desk, `most` rounds of it at most, written as a sheet into a buffer of zeros. This function alone holds the
-// playing state.
+// A plan from any buffers and their desk, `most` rounds of it at most, written as a sheet into a buffer of zeros; and the reasons, a byte for each
+// action, as far as their slice reaches. This function alone holds the playing state.
 fn drive(
     buffers: Buffers,
     most: usize,
@@ -43,12 +44,14 @@ fn drive(
     steps: &Steps,
     desk: &mut Desk,
     sheet: &mut [u8],
+    reasons: &mut [u8],
 ) -> Totals
     requires { ⌜ (let k : PlanInput = record { slots = now slots; refs = now refs; steps = now steps; rule = rule } in
         Sized k × Kept k (record { buffers = buffers; desk = now desk; acts = noActs }) × (most ≤ 2048) × (now sheet ≡ replicate 40968 0)) ⌝ }
     ensures { λ r. ⌜ (let k : PlanInput = record { slots = now (slots .entry); refs = now (refs .entry); steps = now (steps .entry); rule = rule } in
         let p : PlanState = record { buffers = buffers; desk = now (desk .entry); acts = noActs } in
         (r ≡ totalsOf (drivenFrom k most p)) × (now (sheet .exit) ≡ bytes 40968 (sheetBits (drivenFrom k most p)))
+        × (now (reasons .exit) ≡ laid (reasonsFrom k most p) (now (reasons .entry)))
         × (now (desk .exit) ≡ endFrom k most p .desk)) ⌝ }
 {
     let disks = slots.len();
@@ -87,6 +90,7 @@ fn drive(
         }
         at = writing::put_round(sheet, at, disks, &acts);
         writing::tally(&mut fetches, disks, &acts);
+        writing::lay_reasons(reasons, rounds * disks, disks, &acts);
         rounds += 1;
         'references: while b.next < refs.len() {
             let p = b.next;
@@ -105,11 +109,20 @@ fn drive(
     }
 }
 
-// Both plans of a job, each written as a sheet into a buffer of zeros. The desk and the steps are made once; each plan has a desk of its own.
-pub fn run(job: Job, short: &mut [u8], sparing: &mut [u8]) -> Plans
+// Both plans of a job, each written as a sheet into a buffer of zeros, and the reasons of each, as far as their slices reach. The desk and the steps
+// are made once; each plan has a desk of its own.
+pub fn run(
+    job: Job,
+    short: &mut [u8],
+    sparing: &mut [u8],
+    short_reasons: &mut [u8],
+    sparing_reasons: &mut [u8],
+) -> Plans
     requires { ⌜ Fits job × (now short ≡ replicate 40968 0) × (now sparing ≡ replicate 40968 0) ⌝ }
     ensures { λ r. ⌜ (r ≡ plansOf (jobOf job)) × (now (short .exit) ≡ bytes 40968 (sheetBits (scheduleOf (ruleOf Short) (jobOf job))))
-        × (now (sparing .exit) ≡ bytes 40968 (sheetBits (scheduleOf (ruleOf Sparing) (jobOf job)))) ⌝ }
+        × (now (sparing .exit) ≡ bytes 40968 (sheetBits (scheduleOf (ruleOf Sparing) (jobOf job))))
+        × (now («short_reasons» .exit) ≡ laid (reasonsOf (planOf (ruleOf Short) (jobOf job))) (now («short_reasons» .entry)))
+        × (now («sparing_reasons» .exit) ≡ laid (reasonsOf (planOf (ruleOf Sparing) (jobOf job))) (now («sparing_reasons» .entry))) ⌝ }
 {
     let n = job.count;
     let disks = job.disks;
@@ -123,7 +136,17 @@ pub fn run(job: Job, short: &mut [u8], sparing: &mut [u8]) -> Plans
     lookup::open(refs, &disk, &mut desk, &mut steps);
     let none = Buffers::empty();
     let mut first = desk;
-    let a = drive(none, n, slots, refs, Rule::Short, &steps, &mut first, short);
+    let a = drive(
+        none,
+        n,
+        slots,
+        refs,
+        Rule::Short,
+        &steps,
+        &mut first,
+        short,
+        short_reasons,
+    );
     let b = drive(
         none,
         n,
@@ -133,6 +156,7 @@ pub fn run(job: Job, short: &mut [u8], sparing: &mut [u8]) -> Plans
         &steps,
         &mut desk,
         sparing,
+        sparing_reasons,
     );
     Plans {
         short: a,

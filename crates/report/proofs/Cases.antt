@@ -1,10 +1,11 @@
--- Document 01: "For F the program prints exactly the lines below"; and G, short, and K's single byte 00, which is refused with 2. Assumes nothing.
+-- Document 01: "For F the program prints exactly the lines below"; and G, short, and K's single byte 00, which both programs refuse with 2. Pages are
+-- rows of the table in `model`. Assumes nothing.
 use mathlib.Core.Path.{_≡_, refl}
 use Rattle.bits.specs.Reading.{bind, _>>=_, _>>_, give, field, refuseIf, many, closing, answer, readAll}
 use Rattle.model.specs.Ticket.{slotsField, diskField, refField, ticketReader, ticketOf}
 use Rattle.model.specs.Playing.{noneResident, load, play}
 use Rattle.model.proofs.Answers.{hex}
-use Rattle.report.specs.Report.{printed}
+use Rattle.report.specs.Report.{printed, pagePrinted}
 
 -- sparing 4, 0 2, 1 3
 pub prints-F : printed (hex 15 0x2020805009200e020180002020200c) ≡ hex 18 0x73706172696e6720340a3020320a3120330a
@@ -20,3 +21,7 @@ prints-G = refl
 pub prints-K : printed (hex 1 0x00) ≡ hex 10 0x7265667573656420320a
 unfolding printed hex _>>=_ _>>_ bind give field refuseIf many closing answer readAll slotsField diskField refField ticketReader ticketOf
 prints-K = refl
+
+pub page-K : pagePrinted 278613 (hex 1 0x00) ≡ hex 10 0x7265667573656420320a
+unfolding pagePrinted hex _>>=_ _>>_ bind give field refuseIf many closing answer readAll slotsField diskField refField ticketReader ticketOf
+page-K = refl

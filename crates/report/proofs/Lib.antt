@@ -1,4 +1,5 @@
 pub mod Laws
 pub mod Printed
+pub mod PagePrinted
 pub mod Cut
 pub mod Cases

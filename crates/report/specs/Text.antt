@@ -9,7 +9,7 @@ use Rattle.planner.specs.declared.Counts.{Counts}
 use Rattle.planner.specs.declared.Planned.{Planned}
 use Rattle.planner.specs.declared.Mark.{Mark}
 use Rattle.planner.specs.declared.Mark.the-variants.{Unmarked, Short, Sparing}
-use Rattle.report.specs.Report.{lineEnd, diskLines, refusedWord, markWord}
+use Rattle.report.specs.Report.{lineEnd, diskLines, refusalLine, markWord}
 
 -- A text written into a slice from the byte `at` on, as far as the slice reaches: the slice before and after it, and the place after the text.
 pub record Put (at : ℕ) (text before after : List ℕ) (place : ℕ) : Type 0 where
@@ -22,12 +22,12 @@ unfolding lineEnd diskLines
 planText word c disks = word ++ (lineEnd (c .rounds) ++ diskLines (λ d. getD (c .fetches) d 0) disks)
 
 abbrev pub textBy : Mark → Planned → ℕ → List ℕ
-textBy Unmarked p disks = refusedWord ++ lineEnd (p .number)
+textBy Unmarked p disks = refusalLine (p .number)
 textBy Short p disks = planText (markWord isShort) (p .short) disks
 textBy Sparing p disks = planText (markWord isSparing) (p .sparing) disks
 
 unfoldable pub textOf : Planned → ℕ → List ℕ
-unfolding planText
+unfolding planText refusalLine
 textOf p disks = textBy (p .mark) p disks
 
 -- The numbers of a call and of its plans are as document 01 bounds them.

@@ -1,5 +1,5 @@
-// The text that the program prints for a ticket. Document 01: "mark and rounds of the chosen plan, then each disk with its fetches in that plan. A
-// refusal prints `refused`, a space and the number. Every line ends in a line feed."
+// The texts that the programs print for a ticket. Document 01: "mark and rounds of the chosen plan, then each disk with its fetches in that plan. A
+// refusal prints `refused`, a space and the number. Every line ends in a line feed." Document 02, L2: the page.
 use planner::Counts;
 use planner::Mark;
 use planner::Planned;
@@ -8,7 +8,8 @@ ghost use mathlib.Core.List.{[], _∷_};
 ghost use Prim.Native.Nat.{_+_, _*_, _≤_, _<_};
 ghost use lib.ListN.{length, getD};
 ghost use Rattle.bits.specs.Bits.{laid};
-ghost use Rattle.report.specs.Report.{decimal, lineEnd, diskLines, printed};
+ghost use Rattle.model.specs.Text.{decimal};
+ghost use Rattle.report.specs.Report.{lineEnd, diskLines, refusalLine, printed, pagePrinted};
 ghost use Rattle.report.specs.Text.{Put, planText, textOf, Small};
 
 // Text is written into `out` from the byte `at` on, as far as `out` reaches. Each function below gives the place after its text.
@@ -94,6 +95,16 @@ fn put_plan(out: &mut [u8], word: &[u8], plan: Counts, disks: usize) -> usize
     put_disks(out, start, fetches, disks)
 }
 
+// The line of a refusal.
+fn put_refusal(out: &mut [u8], number: usize) -> usize
+    requires { ⌜ number < 65536 ⌝ }
+    ensures text { λ r. ⌜ Put 0 (refusalLine number) (now (out .entry)) (now (out .exit)) r ⌝ }
+    ensures few { λ r. ⌜ r ≤ 14 ⌝ }
+{
+    let at = put_word(out, 0, b"refused");
+    put_end(out, at, number)
+}
+
 // What planning gives, as text.
 fn put_planned(out: &mut [u8], planned: Planned, disks: usize) -> usize
     requires { ⌜ Small planned ⌝ }
@@ -103,16 +114,13 @@ fn put_planned(out: &mut [u8], planned: Planned, disks: usize) -> usize
 {
     let mark = planned.mark;
     match mark {
-        Mark::Unmarked => {
-            let at = put_word(out, 0, b"refused");
-            put_end(out, at, planned.number)
-        }
+        Mark::Unmarked => put_refusal(out, planned.number),
         Mark::Short => put_plan(out, b"short", planned.short, disks),
         Mark::Sparing => put_plan(out, b"sparing", planned.sparing, disks),
     }
 }
 
-// The text for a ticket, written as far as `out` reaches, and its length, at most 128 bytes.
+// The text of `plan` for a ticket, written as far as `out` reaches, and its length, at most 128 bytes.
 pub fn report(ticket: &[u8], out: &mut [u8]) -> usize
     ensures bytes { λ r. ⌜ now (out .exit) ≡ laid (printed (now (ticket .entry))) (now (out .entry)) ⌝ }
     ensures count { λ r. ⌜ r ≡ length (printed (now (ticket .entry))) ⌝ }
@@ -124,4 +132,19 @@ pub fn report(ticket: &[u8], out: &mut [u8]) -> usize
     let read = ticket::read(ticket);
     let disks = read.job.disks;
     put_planned(out, planned, disks)
+}
+
+// The text of `page` for a ticket, written as far as `out` reaches, and its length: the page, which is planned into `out`, or the line of a refusal.
+pub fn page(ticket: &[u8], out: &mut [u8]) -> usize
+    ensures bytes { λ r. ⌜ now (out .exit) ≡ laid (pagePrinted (length (now (out .entry))) (now (ticket .entry))) (now (out .entry)) ⌝ }
+    ensures count { λ r. ⌜ r ≡ length (pagePrinted (length (now (out .entry))) (now (ticket .entry))) ⌝ }
+{
+    let mut short = [0u8; 40962];
+    let mut sparing = [0u8; 40962];
+    let paged = planner::plan_with_page(ticket, &mut short, &mut sparing, out);
+    let number = paged.planned.number;
+    if number != 0 {
+        return put_refusal(out, number);
+    }
+    paged.length
 }

@@ -1,3 +1,4 @@
 pub mod Packing
 pub mod Headed
 pub mod Tallied
+pub mod Reasons

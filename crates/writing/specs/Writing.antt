@@ -1,7 +1,7 @@
 -- A round's actions as rows with a column for each disk: the fetched and the discarded block, where 512 is no block, and the reason. Assumes nothing.
 use mathlib.Core.Bool.{cond}
 use mathlib.Core.List.{List}
-use Prim.Native.Nat.{ℕ}
+use Prim.Native.Nat.{ℕ, _%_}
 use lib.Dec.{eqb}
 use Rattle.model.specs.Playing.{Action, idle, fetch, replace}
 use Rattle.model.specs.Plans.{each}
@@ -29,3 +29,8 @@ actionIn acts e = actionOf (cell acts FETCHED e) (cell acts DISCARDED e)
 unfoldable pub actionsIn : List (List ℕ) → ℕ → List Action
 unfolding each actionOf
 actionsIn acts d = each (actionIn acts) 0 d
+
+-- The reasons of all disks below d, each as a byte.
+unfoldable pub reasonsIn : List (List ℕ) → ℕ → List ℕ
+unfolding each
+reasonsIn acts d = each (λ e. cell acts REASON e % 256) 0 d

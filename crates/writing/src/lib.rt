@@ -1,14 +1,15 @@
-// What a plan writes down: the actions of a round as bits of its sheet, the fetches of each disk so far, and at the end the sheet's round count.
+// What a plan writes down: the actions of a round as bits of its sheet, the reasons for them, the fetches of each disk so far, and at the end the
+// sheet's round count.
 ghost use mathlib.Core.Path.{_≡_};
 ghost use Prim.Native.Nat.{_+_, _*_, _/_, _≤_, _<_};
 ghost use lib.ListN.{length, getD};
-ghost use Rattle.bits.specs.Fields.{putBits, clearFrom};
+ghost use Rattle.bits.specs.Fields.{putBits, clearFrom, laidAt};
 ghost use Rattle.lookup.specs.Lookup.{Below};
 ghost use Rattle.lookup.specs.Desk.{row};
 ghost use Rattle.model.specs.Sheet.{actionBits, roundBits};
 ghost use Rattle.writing.specs.Heading.{headed};
 ghost use Rattle.writing.specs.Tallying.{tallied};
-ghost use Rattle.writing.specs.Writing.{FETCHED, DISCARDED, actionOf, actionsIn};
+ghost use Rattle.writing.specs.Writing.{FETCHED, DISCARDED, actionOf, actionsIn, reasonsIn};
 
 // A round's actions, each disk's in its column: the fetched block and the discarded one, where 512 stands for no block, and the reason: 0 an empty
 // slot, 1 over the min-block, 2 the min-block is sooner, 3 waits, 4 none is missing. All are 512 before the first round.
@@ -59,6 +60,20 @@ pub fn put_round(sheet: &mut [u8], start: usize, disks: usize, acts: &Actions) -
         d += 1;
     }
     at
+}
+
+// The reasons of all disks, in order, a byte each, from the byte `start` on, as far as the slice reaches.
+pub fn lay_reasons(reasons: &mut [u8], start: usize, disks: usize, acts: &Actions)
+    requires { ⌜ (disks ≤ 8) × (start < 65536) ⌝ }
+    ensures { λ _. ⌜ now (reasons .exit) ≡ laidAt start (reasonsIn (now (acts .entry)) disks) (now (reasons .entry)) ⌝ }
+{
+    let mut d = 0;
+    while d < disks {
+        if start + d < reasons.len() {
+            reasons[start + d] = (acts[REASON][d] % 256) as u8;
+        }
+        d += 1;
+    }
 }
 
 // One fetch more for each disk that fetched a block.

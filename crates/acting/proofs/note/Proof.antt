@@ -9,14 +9,14 @@ use denote.Ref.{now}
 use Rattle.lookup.specs.Desk.{helds}
 use Rattle.lookup.proofs.Laws.{below-any}
 use Rattle.choosing.specs.declared.Choice.{Choice}
-use Rattle.acting.specs.Acting.{Small, fetchNoted, discardNoted, reasonOf, column, noted}
+use Rattle.acting.specs.Acting.{Small, fetchNoted, discardNoted, reasonNoted, column, noted}
 use Rattle.acting.proofs.AfterChoice.{noted-is}
 use Rattle.acting.proofs.note.Statement.{statement}
 use Rattle.acting.proofs.note.Tie as tie
 
 -- what is noted from the start, once the column is written
 as-noted : (s : tie.Start) {x : Choice} {after : List (List ℕ)} → s .args .c ≡ x
-    → after ≡ column (now (s .args .acts)) (s .args .d) (fetchNoted x) (discardNoted (now (s .args .desk)) x) (reasonOf x)
+    → after ≡ column (now (s .args .acts)) (s .args .d) (fetchNoted x) (discardNoted (now (s .args .desk)) x) (reasonNoted (now (s .args .desk)) x)
     → after ≡ noted (s .args .d) (s .args .c) (now (s .args .desk)) (now (s .args .acts))
 as-noted s e h = noted-is (s .args .d) (now (s .args .desk)) (now (s .args .acts)) e h
 

@@ -1,20 +1,18 @@
 -- `planner::plan_job` meets its contract, for rooms that are too small and for rooms that are not. Assumes nothing.
 use native.Mathlib.Omega.{arith}
-use mathlib.Core.Path.{_∙_}
 use denote.Ref.{now}
-use Rattle.model.specs.Calls.{plannedOf}
-use Rattle.planner.proofs.Rooms.{gives-refused, gives-given, short-totals, sparing-totals, bits-fit, scratch-room, copied, job-refused, job-given, outcome-given}
+use Rattle.choosing.specs.declared.Rule.the-variants.{Short, Sparing}
+use Rattle.planner.proofs.Rooms.{gives-refused, short-totals, sparing-totals, bits-few, job-refused, job-given, hand-asks, hand-gives}
 use borrow.Author.Needs.{needs}
 use Rattle.planner.proofs.plan_job.Statement.{statement}
 use Rattle.planner.proofs.plan_job.Tie as tie
-use Rattle.planner.proofs.plan_job.Reads as reads
-use Rattle.planner.proofs.plan_job.Lts as lts
-use Rattle.bits.proofs.copy_front.Reads as copy-front-reads
-use Rattle.planner.proofs.outcome.Reads as outcome-reads
-use Rattle.planner.proofs.refusal.Reads as refusal-reads
-use Rattle.planner.proofs.room_number.Reads as room-number-reads
-use Rattle.planning.proofs.run.Reads as run-reads
-use Rattle.choosing.specs.declared.Rule.the-variants.{Short, Sparing}
+
+-- the ways back from where the rooms were compared: to both plans, and to the entry
+abbrev made : tie.After-room-number → tie.After-run
+made c = c .before .before .before .before .before .before .before
+
+abbrev entry : tie.After-run → tie.Start
+entry c = c .before .before .before .before .before .before .before
 
 slice-aggregate-run : tie.Need-slice-aggregate-run
 slice-aggregate-run c = search needs
@@ -22,22 +20,26 @@ slice-aggregate-run c = search needs
 slice-aggregate-run-2 : tie.Need-slice-aggregate-run-2
 slice-aggregate-run-2 c = search needs
 
+slice-aggregate-run-3 : tie.Need-slice-aggregate-run-3
+slice-aggregate-run-3 c = search needs
+
+slice-aggregate-run-4 : tie.Need-slice-aggregate-run-4
+slice-aggregate-run-4 c = search needs
+
 run-requires : tie.Need-run-requires
 run-requires c κs = search needs
 
-add-m : tie.Need-add-m
-add-m c =
-    let e = c .before .before .before .before .before .before .before .before .before .before in
-    let sound = e .pre .sound in
-    let run = c .before .before .before .before .before .run .ensures in
-    bits-fit _ sound Short _ (short-totals _ sound _ (run .0))
+sheet-length-requires : tie.Need-sheet-length-requires
+sheet-length-requires c κs =
+    let run = c .before .before .before .before in
+    let sound = entry run .pre .sound in
+    bits-few _ sound Short _ (short-totals _ sound _ (run .run .ensures .0))
 
-add-n : tie.Need-add-n
-add-n c =
-    let e = c .before .before .before .before .before .before .before .before .before .before .before in
-    let sound = e .pre .sound in
-    let run = c .before .before .before .before .before .before .run .ensures in
-    bits-fit _ sound Sparing _ (sparing-totals _ sound _ (run .0))
+sheet-length-requires-2 : tie.Need-sheet-length-requires-2
+sheet-length-requires-2 c κs =
+    let run = c .before .before .before .before .before in
+    let sound = entry run .pre .sound in
+    bits-few _ sound Sparing _ (sparing-totals _ sound _ (run .run .ensures .0))
 
 room-number-requires : tie.Need-room-number-requires
 room-number-requires c κs = search needs
@@ -47,42 +49,29 @@ refusal-requires c κs = search needs
 
 returns : tie.Need-returns
 returns c =
-    let e = c .before .before .before .before .before .before .before .before .before .before .before .before .before .before in
-    let sound = e .pre .sound in
-    let run = c .before .before .before .before .before .before .before .before .before .run .ensures in
+    let rooms = c .before .before in
+    let e = entry (made rooms) in
     let taken = c .before .if1 .taken in
-    gives-refused _ (now (e .args .short)) (now (e .args .sparing)) _ _ (job-refused _ sound _ (run .0) _ _ _ (c .before .before .room-number .ensures) (λ z. omega (arith, taken, z))) (c .refusal .ensures)
+    gives-refused _ (now (e .args .short)) (now (e .args .sparing)) _ _
+    (job-refused _ (e .pre .sound) _ (made rooms .run .ensures .0) _ _ _ _ _ (rooms .before .before .sheet-length .ensures)
+    (rooms .before .sheet-length2 .ensures) (rooms .room-number .ensures) (λ z. omega (arith, taken, z)))
+    (c .refusal .ensures)
 
-slice-aggregate-copy-front : tie.Need-slice-aggregate-copy-front
-slice-aggregate-copy-front c = search needs
+slice-aggregate-hand-out : tie.Need-slice-aggregate-hand-out
+slice-aggregate-hand-out c = search needs
 
-copy-front-requires : tie.Need-copy-front-requires
-copy-front-requires c κs =
-    let e = c .before .before .before .before .before .before .before .before .before .before .before .before .before .before .before in
-    let sound = e .pre .sound in
-    let run = c .before .before .before .before .before .before .before .before .before .before .run .ensures in
-    let first = scratch-room _ sound Short _ (short-totals _ sound _ (run .0)) _ (run .1) in
-    let second = scratch-room _ sound Sparing _ (sparing-totals _ sound _ (run .0)) _ (run .2) in
-    let left = c .before .before .if1 .left in
-    let fits = job-given _ sound _ (run .0) _ _ _ (c .before .before .before .room-number .ensures) (omega (arith, left)) in
-    (omega (arith, first, second), omega (arith, fits))
+slice-aggregate-hand-out-2 : tie.Need-slice-aggregate-hand-out-2
+slice-aggregate-hand-out-2 c = search needs
 
-slice-aggregate-copy-front-2 : tie.Need-slice-aggregate-copy-front-2
-slice-aggregate-copy-front-2 c = search needs
-
-copy-front-requires-2 : tie.Need-copy-front-requires-2
-copy-front-requires-2 c κs =
-    let e = c .before .before .before .before .before .before .before .before .before .before .before .before .before .before .before .before .before .before .before .before in
-    let sound = e .pre .sound in
-    let run = c .before .before .before .before .before .before .before .before .before .before .before .before .before .before .before .run .ensures in
-    let first = scratch-room _ sound Short _ (short-totals _ sound _ (run .0)) _ (run .1) in
-    let second = scratch-room _ sound Sparing _ (sparing-totals _ sound _ (run .0)) _ (run .2) in
-    let left = c .before .before .before .before .before .before .before .if1 .left in
-    let fits = job-given _ sound _ (run .0) _ _ _ (c .before .before .before .before .before .before .before .before .room-number .ensures) (omega (arith, left)) in
-    (omega (arith, first, second), omega (arith, fits))
-
-outcome-requires : tie.Need-outcome-requires
-outcome-requires c κs = search needs
+hand-out-requires : tie.Need-hand-out-requires
+hand-out-requires c κs =
+    let rooms = c .before .before .before .before .before in
+    let e = entry (made rooms) in
+    let run = made rooms .run .ensures in
+    let left = c .before .before .before .before .if1 .left in
+    let fits = job-given _ (e .pre .sound) _ (run .0) _ _ _ _ _ (rooms .before .before .sheet-length .ensures) (rooms .before .sheet-length2 .ensures)
+    (rooms .room-number .ensures) (omega (arith, left)) in
+    hand-asks _ (e .pre .sound) _ (run .0) (run .1) (run .2) (fits .1) (fits .2)
 
 same-length : tie.Need-same-length
 same-length c = search needs
@@ -91,17 +80,15 @@ same-length-2 : tie.Need-same-length-2
 same-length-2 c = search needs
 
 returns-2 : tie.Need-returns-2
-unfolding plannedOf
 returns-2 c =
-    let e = c .before .before .before .before .before .before .before .before .before .before .before .before .before .before .before .before .before .before .before .before .before .before .before .before in
-    let sound = e .pre .sound in
-    let run = c .before .before .before .before .before .before .before .before .before .before .before .before .before .before .before .before .before .before .before .run .ensures in
-    let left = c .before .before .before .before .before .before .before .before .before .before .before .if1 .left in
-    let fits = job-given _ sound _ (run .0) _ _ _ (c .before .before .before .before .before .before .before .before .before .before .before .before .room-number .ensures) (omega (arith, left)) in
-    gives-given _ (now (e .args .short)) (now (e .args .sparing)) _ _ _ _ (fits .0)
-    (c .outcome .ensures ∙ outcome-given _ sound _ (run .0))
-    (copied _ sound Short _ (short-totals _ sound _ (run .0)) _ _ _ (run .1) (c .before .before .before .before .before .before .before .before .copy-front .ensures))
-    (copied _ sound Sparing _ (sparing-totals _ sound _ (run .0)) _ _ _ (run .2) (c .before .before .before .copy-front2 .ensures))
+    let rooms = c .before .before .before .before .before .before .before .before .before .before in
+    let e = entry (made rooms) in
+    let run = made rooms .run .ensures in
+    let left = c .before .before .before .before .before .before .before .before .before .if1 .left in
+    let fits = job-given _ (e .pre .sound) _ (run .0) _ _ _ _ _ (rooms .before .before .sheet-length .ensures) (rooms .before .sheet-length2 .ensures)
+    (rooms .room-number .ensures) (omega (arith, left)) in
+    hand-gives _ (e .pre .sound) _ (run .0) (run .1) (run .2) _ (now (e .args .short)) (now (e .args .sparing)) (fits .0)
+    (c .before .before .before .before .hand-out .ensures)
 
 pub plan-job-spec : {M : Type 1} → statement M
 plan-job-spec =
@@ -109,17 +96,17 @@ plan-job-spec =
     (tie.spec
     slice-aggregate-run
     slice-aggregate-run-2
+    slice-aggregate-run-3
+    slice-aggregate-run-4
     run-requires
-    add-m
-    add-n
+    sheet-length-requires
+    sheet-length-requires-2
     room-number-requires
     refusal-requires
     returns
-    slice-aggregate-copy-front
-    copy-front-requires
-    slice-aggregate-copy-front-2
-    copy-front-requires-2
-    outcome-requires
+    slice-aggregate-hand-out
+    slice-aggregate-hand-out-2
+    hand-out-requires
     same-length
     same-length-2
     returns-2)

@@ -4,6 +4,7 @@ use mathlib.Core.Path.{_≡_, refl, sym, ap, _∙_, subst}
 use mathlib.Core.Logic.{_⊎_, inl, inr, ⊎-elim}
 use mathlib.Core.List.{[], _∷_}
 use Prim.Native.Nat.{ℕ, _+_, _-_, _*_, _≤_, _<_}
+use native.Mathlib.Nat.{mul-le-mul}
 use native.Mathlib.Omega.{arith}
 use lib.Dec.{lit<}
 use lib.ListN.{length, getD, length-replicate}
@@ -23,8 +24,8 @@ use Rattle.planning.specs.Sized.{Kept}
 use Rattle.choosing.proofs.Chosen.{Placed}
 use Rattle.planning.proofs.Sizes.{chosen-placed, chosen-small, look-within}
 use Rattle.planning.proofs.WrittenSoFar.{written-room, written-clear, written-few, header-fits, headed-long}
-use Rattle.planning.proofs.RestOfPlan.{inputWith, stateWith, BeforeRound, BeforeTurn, BeforeRead}
-use Rattle.planning.proofs.RestOfPlan.{round-first, round-next, NoneLeft, all-played, all-read, last-totals, last-sheet, last-desk}
+use Rattle.planning.proofs.RestOfPlan.{inputWith, stateWith, BeforeRound, BeforeTurn, BeforeRead, laid-long}
+use Rattle.planning.proofs.RestOfPlan.{round-first, round-next, NoneLeft, all-played, all-read, last-totals, last-sheet, last-desk, last-reasons}
 use Rattle.planning.proofs.RestOfPlan.{turn-first, turn-next, turn-last, turn-into, turn-over, turn-idle}
 use Rattle.planning.proofs.RestOfPlan.{read-first, read-next, read-missing, read-end}
 use types.Run.{OneOf}
@@ -34,28 +35,28 @@ use Rattle.planning.proofs.drive.Statement.{statement}
 use Rattle.planning.proofs.drive.Tie as tie
 
 abbrev Inv-disks : tie.InvT-disks
-Inv-disks most slots refs rule steps desk₀ sheet disks b₀ acts₀ fetches rounds at d₀ desk b acts d =
+Inv-disks most slots refs rule steps desk₀ sheet reasons disks b₀ acts₀ fetches rounds at d₀ desk b acts d =
     BeforeTurn (inputWith slots refs steps rule) (stateWith b₀ desk₀ acts₀) d (stateWith b desk acts)
 
 abbrev μ-disks : tie.MeasureT-disks
-μ-disks most slots refs rule steps desk₀ sheet disks b₀ acts₀ fetches rounds at d₀ desk b acts d = disks - d
+μ-disks most slots refs rule steps desk₀ sheet reasons disks b₀ acts₀ fetches rounds at d₀ desk b acts d = disks - d
 
 abbrev Inv-references : tie.InvT-references
-Inv-references most slots refs rule steps desk₀ sheet disks b₀ acts fetches rounds at d desk b =
+Inv-references most slots refs rule steps desk₀ sheet reasons disks b₀ acts fetches rounds at d desk b =
     BeforeRead (inputWith slots refs steps rule) (stateWith b₀ desk₀ acts) (stateWith b desk acts)
 
 abbrev μ-references : tie.MeasureT-references
-μ-references most slots refs rule steps desk₀ sheet disks b₀ acts fetches rounds at d desk b = length refs - b .next
+μ-references most slots refs rule steps desk₀ sheet reasons disks b₀ acts fetches rounds at d desk b = length refs - b .next
 
 abbrev Inv-rounds : tie.InvT-rounds
-Inv-rounds most slots refs rule steps desk₀ sheet₀ disks b₀ acts₀ fetches₀ rounds₀ at₀ desk sheet b acts fetches rounds at =
-    BeforeRound (inputWith slots refs steps rule) most (stateWith b₀ desk₀ acts₀) (stateWith b desk acts) fetches sheet rounds at
+Inv-rounds most slots refs rule steps desk₀ sheet₀ reasons₀ disks b₀ acts₀ fetches₀ rounds₀ at₀ desk sheet reasons b acts fetches rounds at =
+    BeforeRound (inputWith slots refs steps rule) most (stateWith b₀ desk₀ acts₀) (stateWith b desk acts) reasons₀ fetches sheet reasons rounds at
 
 abbrev μ-rounds : tie.MeasureT-rounds
-μ-rounds most slots refs rule steps desk₀ sheet₀ disks b₀ acts₀ fetches₀ rounds₀ at₀ desk sheet b acts fetches rounds at = most - rounds
+μ-rounds most slots refs rule steps desk₀ sheet₀ reasons₀ disks b₀ acts₀ fetches₀ rounds₀ at₀ desk sheet reasons b acts fetches rounds at = most - rounds
 
 -- The places of the function that the answers below go back to: its entry, a round's start, a disk's turn, its choice made, the two choices that
--- fetch, a round counted, a reference due.
+-- fetch, a round counted and its reasons laid, a reference due.
 abbrev Entry : Type 0
 Entry = tie.Start Inv-disks μ-disks Inv-references μ-references Inv-rounds μ-rounds
 
@@ -75,14 +76,14 @@ abbrev OverBlock : Type 0
 OverBlock = tie.After-known-told2 Inv-disks μ-disks Inv-references μ-references Inv-rounds μ-rounds
 
 abbrev Counted : Type 0
-Counted = tie.After-tally Inv-disks μ-disks Inv-references μ-references Inv-rounds μ-rounds
+Counted = tie.After-slice-known4 Inv-disks μ-disks Inv-references μ-references Inv-rounds μ-rounds
 
 abbrev Reading : Type 0
 Reading = tie.In-references Inv-disks μ-disks Inv-references μ-references Inv-rounds μ-rounds
 
 -- The ways back: to the entry, to the round's start, to the turn, to the choice,
 abbrev entry : RoundStart → Entry
-entry r = r .before .before .before .before
+entry r = r .before .before .before .before .before
 
 abbrev round : Turn → RoundStart
 round t = t .before .before .before .before
@@ -96,9 +97,19 @@ into c = c .before .before .before .before .before .before
 abbrev over : OverBlock → Chosen
 over c = c .before .before .before .before .before .before
 
--- to where the round was written, to the end of its turns, and to its start.
+-- to where a round's reasons were laid, to where it was counted, to where it was written, to the end of its turns, and to its start.
+abbrev laying : Counted → tie.After-lay-reasons Inv-disks μ-disks Inv-references μ-references Inv-rounds μ-rounds
+laying c = c .before .before
+
+abbrev counted : Counted → tie.After-tally Inv-disks μ-disks Inv-references μ-references Inv-rounds μ-rounds
+counted c = laying c .before .before .before
+
+abbrev writtenAt : tie.After-tally Inv-disks μ-disks Inv-references μ-references Inv-rounds μ-rounds
+    → tie.After-put-round Inv-disks μ-disks Inv-references μ-references Inv-rounds μ-rounds
+writtenAt c = c .before .before .before .before .before
+
 abbrev written : Counted → tie.After-put-round Inv-disks μ-disks Inv-references μ-references Inv-rounds μ-rounds
-written c = c .before .before .before .before .before
+written c = writtenAt (counted c)
 
 abbrev TurnsOver : Type 0
 TurnsOver = tie.After-disks Inv-disks μ-disks Inv-references μ-references Inv-rounds μ-rounds
@@ -133,7 +144,7 @@ last c = let l = acted c .before .disks in stateWith (l .b) (l .desk) (l .acts)
 
 rounds-holds : tie.Need-rounds-holds Inv-disks μ-disks Inv-references μ-references Inv-rounds μ-rounds
 rounds-holds c =
-    let s = c .before .before .before in
+    let s = c .before .before .before .before in
     round-first (s .pre .0) (s .pre .1) (s .pre .2) (s .pre .3)
 
 disks-holds : tie.Need-disks-holds Inv-disks μ-disks Inv-references μ-references Inv-rounds μ-rounds
@@ -313,6 +324,26 @@ tally-requires c κs =
     let few = h .fewRounds in
     (h .sized .fewDisks, written-few (h .written) (omega (arith, within, few)))
 
+-- The actions so far are few.
+few-actions : (t : tie.After-tally Inv-disks μ-disks Inv-references μ-references Inv-rounds μ-rounds)
+    → let r = begin (turnsOver (writtenAt t)) .before .before in r .rounds .rounds * length (input r .slots) ≤ 16384
+few-actions t =
+    let r = begin (turnsOver (writtenAt t)) .before .before in
+    let h = r .rounds .inv in
+    let within = h .within in
+    let few = h .fewRounds in
+    let most = mul-le-mul {n₂ = 2048} {m₂ = 8} (let l : r .rounds .rounds ≤ 2048 = omega (arith, within, few) in l) (h .sized .fewDisks) in
+    omega (arith, most)
+
+mul-lay-reasons : tie.Need-mul-lay-reasons Inv-disks μ-disks Inv-references μ-references Inv-rounds μ-rounds
+mul-lay-reasons c = let few = few-actions (c .before) in record { fits = omega (arith, few) }
+
+lay-reasons-requires : tie.Need-lay-reasons-requires Inv-disks μ-disks Inv-references μ-references Inv-rounds μ-rounds
+lay-reasons-requires c κs =
+    let t = c .before .before in
+    let few = few-actions t in
+    (begin (turnsOver (writtenAt t)) .before .before .rounds .inv .sized .fewDisks, omega (arith, few))
+
 add-rounds : tie.Need-add-rounds Inv-disks μ-disks Inv-references μ-references Inv-rounds μ-rounds
 add-rounds c =
     let more = begun c .before .rounds-test .taken in
@@ -328,8 +359,8 @@ rounds-less c = let more = begun (c .before .before) .before .rounds-test .taken
 -- The round is over: the next one starts where the reading stopped.
 Next : Counted → PlanState → Type 0
 Next c q = let a = entry (roundOf c) .args in
-    BeforeRound (input (roundOf c)) (a .most) (stateWith (a .buffers) (now (a .desk)) noActs) q (c .tally .last .0) (written c .put-round .last .0)
-    (roundOf c .rounds .rounds + 1) (written c .put-round .result)
+    BeforeRound (input (roundOf c)) (a .most) (stateWith (a .buffers) (now (a .desk)) noActs) q (now (a .reasons)) (counted c .tally .last .0)
+    (written c .put-round .last .0) (laying c .lay-reasons .last .0) (roundOf c .rounds .rounds + 1) (written c .put-round .result)
 
 next : (c : Counted) (q : PlanState) → let w = input (roundOf c) in Kept w q → q ≡ readFrom w (length (w .refs)) (last c) → Next c q
 unfolding Next
@@ -339,7 +370,7 @@ next c q kept e =
     let more = begun c .before .rounds-test .taken in
     let due = begun c .if1 .left in
     round-next (roundOf c .rounds .inv) (omega (arith, more)) (omega (arith, due)) kept (e ∙ ap (readFrom _ _) all)
-    _ (ap (λ (p : PlanState). p .acts) all) _ refl (c .tally .ensures) (put .1) (put .0)
+    _ (ap (λ (p : PlanState). p .acts) all) _ refl (counted c .tally .ensures) (put .1) (put .0) (laying c .lay-reasons .ensures)
 
 rounds-again : tie.Need-rounds-again Inv-disks μ-disks Inv-references μ-references Inv-rounds μ-rounds
 unfolding Next
@@ -422,11 +453,14 @@ same-length c =
     ap length (c .before .before .put-header .ensures) ∙ headed-long (r .rounds .inv .written) _
     ∙ sym (ap length (entry r .pre .3) ∙ length-replicate {A = ℕ} 40968 0)
 
+same-length-2 : tie.Need-same-length-2 Inv-disks μ-disks Inv-references μ-references Inv-rounds μ-rounds
+same-length-2 c = laid-long (c .before .before .before .before .before .rounds .inv .reasoned)
+
 returns : tie.Need-returns Inv-disks μ-disks Inv-references μ-references Inv-rounds μ-rounds
 returns c =
     let left = c .before .before .before .before in
     let h = left .before .rounds .inv in
-    (last-totals h (ended left), last-sheet h (ended left) (c .before .before .put-header .ensures), last-desk h (ended left))
+    (last-totals h (ended left), last-sheet h (ended left) (c .before .before .put-header .ensures), last-reasons h (ended left), last-desk h (ended left))
 
 pub drive-spec : {M : Type 1} → statement M
 drive-spec =
@@ -459,6 +493,8 @@ drive-spec =
     disks-again
     put-round-requires
     tally-requires
+    mul-lay-reasons
+    lay-reasons-requires
     add-rounds
     references-holds
     rounds-less
@@ -475,4 +511,5 @@ drive-spec =
     references-again
     put-header-requires
     same-length
+    same-length-2
     returns)

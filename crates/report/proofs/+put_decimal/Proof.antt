@@ -2,7 +2,8 @@
 use mathlib.Core.Path.{sym}
 use borrow.Author.Needs.{needs}
 use native.Mathlib.Omega.{arith}
-use Rattle.report.proofs.Laws.{decimal-one, decimal-more, digits-five, put-then, put-same}
+use Rattle.model.proofs.Text.{decimal-one, decimal-more, digits-five}
+use Rattle.report.proofs.Laws.{put-then, put-same}
 use Prim.Native.Nat.{ℕ, _/_, _<_}
 use borrow.Fn.Kinds.{In}
 use borrow.Fn.PlainCycle.{Measures, is, falls, and}

@@ -8,7 +8,8 @@ use mir.Syntax.{w16}
 use mir.Val.{Fits}
 use Rattle.report.specs.Report.{diskLines}
 use Rattle.report.specs.Text.{Put}
-use Rattle.report.proofs.Laws.{digit-one, end-seven, put-start, put-same, put-length, put-disk}
+use Rattle.model.proofs.Text.{digit-one}
+use Rattle.report.proofs.Laws.{end-seven, put-start, put-same, put-length, put-disk}
 use Rattle.report.proofs.put_disks.Statement.{statement}
 use Rattle.report.proofs.put_disks.Tie as tie
 

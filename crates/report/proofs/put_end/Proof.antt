@@ -1,6 +1,7 @@
 -- `report::put_end` meets its contract: three texts, one after the other. Assumes nothing.
 use Rattle.report.specs.Report.{lineEnd}
-use Rattle.report.proofs.Laws.{digits-five, put-then}
+use Rattle.model.proofs.Text.{digits-five}
+use Rattle.report.proofs.Laws.{put-then}
 use borrow.Author.Needs.{needs}
 use native.Mathlib.Omega.{arith}
 use Rattle.report.proofs.put_end.Statement.{statement}

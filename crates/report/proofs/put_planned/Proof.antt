@@ -1,7 +1,6 @@
 -- `report::put_planned` meets its contract, for each mark. Assumes nothing.
 use native.Mathlib.Omega.{arith}
 use Rattle.report.specs.Text.{textOf}
-use Rattle.report.proofs.Laws.{end-seven, put-then}
 use borrow.Author.Needs.{needs}
 use Rattle.report.proofs.put_planned.Statement.{statement}
 use Rattle.report.proofs.put_planned.Tie as tie
@@ -9,14 +8,8 @@ use Rattle.report.proofs.put_planned.Tie as tie
 enum-told : tie.Need-enum-told
 enum-told c = search needs
 
-slice-aggregate-put-word : tie.Need-slice-aggregate-put-word
-slice-aggregate-put-word c = search needs
-
-put-word-requires : tie.Need-put-word-requires
-put-word-requires c κs = search needs
-
-put-end-requires : tie.Need-put-end-requires
-put-end-requires c κs = search needs
+put-refusal-requires : tie.Need-put-refusal-requires
+put-refusal-requires c κs = search needs
 
 enum-told-2 : tie.Need-enum-told-2
 enum-told-2 c = search needs
@@ -42,11 +35,8 @@ same-length c = search needs
 returns : tie.Need-returns
 unfolding textOf
 returns c =
-    let e = c .before .before .before .before .before .before .before .before .before .before .before .before in
-    let word = c .before .before .before .before .before .before .put-word .ensures in
-    let end = c .before .before .put-end .ensures in
-    let seven = end-seven (e .args .planned .number) (omega (arith, e .pre .0 .number)) in
-    rw (c .before .before .before .before .before .before .before .before .before .enum-told .given .1) (put-then word end, omega (arith, word .next, end .next, seven))
+    let refused = c .before .before .put-refusal .ensures in
+    rw (c .before .before .before .before .enum-told .given .1) (refused .0, omega (arith, refused .1))
 
 same-length-2 : tie.Need-same-length-2
 same-length-2 c = search needs
@@ -67,9 +57,7 @@ put-planned-spec =
     tie.close
     (tie.spec
     enum-told
-    slice-aggregate-put-word
-    put-word-requires
-    put-end-requires
+    put-refusal-requires
     enum-told-2
     slice-aggregate-put-plan
     put-plan-requires

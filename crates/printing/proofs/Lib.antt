@@ -1,0 +1,5 @@
+pub mod Laws
+pub mod Pages
+mod Legend
+mod Columns
+pub mod ReadBack

@@ -1,0 +1,107 @@
+# page_faults.sh - programs `cases` and `page` with a fault, each of which the test of pages must catch.
+#
+# usage: sh page_faults.sh BUILD     (BUILD has the test pages, and programs.o, answer.o and reference.o)
+# The programs are programs.c over answer.c and reference.c, changed by a sed script, in BUILD/programs.
+cd "$(dirname "$0")" || exit 2
+cc=${CC:-cc}
+build=$1
+dir=$build/programs
+missed=0
+tried=0
+
+# build SCRIPT - both programs; only the files that it changes are compiled.
+build() {
+    objects=
+    rm -rf "$dir" && mkdir -p "$dir" || exit 2
+    for file in programs.c reference/answer.c reference/reference.c; do
+        name=$(basename "$file" .c)
+        sed -E "$1" "$file" >"$dir/$name.c"
+        if cmp -s "$file" "$dir/$name.c"; then
+            objects="$objects $build/$name.o"
+        else
+            $cc -std=c11 -I. -Ireference -c "$dir/$name.c" -o "$dir/$name.o" || return 1
+            objects="$objects $dir/$name.o"
+        fi
+    done
+    # shellcheck disable=SC2086
+    $cc $objects -o "$dir/cases" && ln "$dir/cases" "$dir/page"
+}
+
+# try COUNT - the test of pages, with the programs built.
+try() {
+    timeout 60 "$build/pages" "$dir/cases" "$dir/page" 1 "$1" >"$dir/report" 2>&1
+}
+
+# fault NAME WORDS SCRIPT - the test must fail, and say these words.
+fault() {
+    tried=$((tried + 1))
+    if ! build "$3" || [ -z "$(ls "$dir"/*.o 2>/dev/null)" ]; then
+        echo "BROKEN  $1"
+        missed=$((missed + 1))
+        return
+    fi
+    try 300
+    if [ $? -ne 1 ] || ! grep -q "$2" "$dir/report"; then
+        echo "MISSED  $1"
+        missed=$((missed + 1))
+    fi
+}
+
+# Without a fault they agree; but one job does not meet all that must be met.
+build '' && try 300 || { cat "$dir/report"; echo "programs without a fault are not passed"; exit 1; }
+try 1
+[ $? -eq 1 ] && grep -q '^FAIL' "$dir/report" || { echo "one job is taken for enough"; exit 1; }
+
+another='cases gives another answer'
+in_page='/^unsigned ref_page/,/^}/'
+
+# shown LETTER OTHER - the script that has another letter stand on the page for this one.
+shown() {
+    printf "s/line\\\\[15\\\\] = .*/line[15] = (uint8_t)(letter == '%s' ? '%s' : letter);/" "$1" "$2"
+}
+
+# The page
+fault 'W shown as S' "$another" "$(shown W S)"
+fault 'N shown as E' "$another" "$(shown N E)"
+fault 'E beside an empty slot though there is no U' "$another" "s/return 'N'/return s->held[d] < job->slots[d] ? 'E' : 'N'/"
+fault 'W where S holds and P-CON would wait too' "$another" "s/return 'S'/return rule == REF_P_CON \\&\\& waits(job, s, l, d, v) ? 'W' : 'S'/"
+fault 'the page of P-CON always' "$another" 's/rule = \(enum ref_rule\)drawn.planned.mark/rule = REF_P_CON/'
+fault 'the page of P-MIN always' "$another" 's/rule = \(enum ref_rule\)drawn.planned.mark/rule = REF_P_MIN/'
+fault 'rounds from 0' "$another" 's/put_number\(line, 4, round\)/put_number(line, 4, round - 1)/'
+fault 'no round above 1,999' "$another" 's/put_number\(line, 4, round\)/put_number(line, 4, round % 2000)/'
+fault 'the last eight bits of a block' "$another" 's/put_number\(to, 3, block\)/put_number(to, 3, block % 256)/'
+fault 'the action of the next disk' "$another" 's/actions\[d\], letters/actions[(d + 1) % job->disks], letters/'
+fault 'no legend for no rounds' "$another" 's/^    put_legend\(page\);/    if (round > 0) put_legend(page);/'
+
+# The rooms
+fault '19 before 18' 'reference 18' \
+    "${in_page}s/^    if \\(number != 0\\)\$/    if (number == 18 \\&\\& ng < 100) return 19;\\n&/"
+fault '18 not tested with a page' 'reference 18' "${in_page}s/draw_up\\(ticket, n, room/draw_up(ticket, n, (const size_t[]){ns, REF_SHEET}/"
+fault '19 for an exact room' 'cases     19' 's/if \(length > ng\)/if (length >= ng)/'
+fault 'no 19 for a room one byte short' 'reference 19' 's/if \(length > ng\)/if (length > ng + 1)/'
+fault 'sheets written although 19' "$another" 's/^    if \(length > ng\)/    write_sheets(\&drawn, buffer, room);\n&/'
+fault 'a byte past the page changed' "$another" 's/^    write_page\(&drawn.*/&\n    if (length < ng) page[length] = 10;/'
+fault 'the last sixteen bits of the length' "$another" 's/out->length = length/out->length = length % 65536/'
+
+# The program `cases` alone
+fault 'the last byte of a page not written' "$another" 's/page.at, p.length\);$/page.at, p.length - 1);/'
+fault 'sheets exchanged beside a page' "$another" 's/put_planned\(to, &p.planned, p_min.at, p_con.at\)/put_planned(to, \&p.planned, p_con.at, p_min.at)/'
+fault 'another call' 'does not repeat the call' 's/printf\("%s = %s.n", line, text\)/printf("plan%s = %s\\n", line + 4, text)/'
+fault 'it ends in the middle' 'ends without an answer' 's/printf\("%s = %s.n", line, text\)/if (strlen(text) > 9000) return; else &/'
+fault 'it crashes in the middle' 'DISAGREE: cases' 's/printf\("%s = %s.n", line, text\)/if (strlen(text) > 9000) __builtin_trap(); else &/'
+fault 'a line more at the end' 'more than was asked' 's/^        cases\(\);/        cases(), puts("");/'
+
+# The program `page` alone
+fault 'no page printed' 'page prints 0 bytes' 's/fwrite\(text, 1, paged.length/fwrite(text, 1, 0/'
+fault 'a page without its last line feed' 'page prints' 's/fwrite\(text, 1, paged.length/fwrite(text, 1, paged.length - 1/'
+fault 'a line more after the page' 'page prints' 's/^(        fwrite\(text.*);/\1, puts("");/'
+fault 'no more than 278,612 bytes printed' '278613; byte 278612 differs' \
+    's/fwrite\(text, 1, paged.length/fwrite(text, 1, paged.length < REF_PAGE ? paged.length : REF_PAGE - 1/'
+fault 'room for all pages but the longest' 'page prints 11 bytes' 's/sheet\[1\], REF_SHEET, text, REF_PAGE,/sheet[1], REF_SHEET, text, REF_PAGE - 1,/'
+fault 'no line feed after a refusal' 'page prints 9 bytes, the reference has 10' 's/"refused %u.n"/"refused %u"/'
+fault 'another number' 'page prints 10 bytes, the reference has 10' 's/printf\("refused %u.n", number\)/printf("refused %u\\n", number == 8 ? 1 : number)/'
+fault 'a longer input cut to the longest ticket' 'page prints 278613 bytes, the reference has 10' 's/ticket\[REF_TICKET \+ 1\]/ticket[REF_TICKET]/'
+fault 'a status that is not 0' 'page ends with status 3' 's/^        page\(\);/        return page(), 3;/'
+
+echo "$tried faults of pages, $missed not caught"
+[ "$missed" -eq 0 ]

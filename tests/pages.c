@@ -1,0 +1,480 @@
+/* pages.c - the programs `cases` and `page` against the reference, on pages.
+ *
+ * usage: pages CASES PAGE [SEED [COUNT [FIRST]]]
+ * Draws COUNT jobs from number FIRST on (default 0). CASES gets lines `page` of the vectors' form,
+ * three for each job, and three of the longest page; PAGE gets the tickets of the first jobs, the
+ * longest page's, and inputs that are longer than a ticket. Stops at the first answer that is not
+ * the reference's. Every job's draws depend on the seed and its own number only, so "SEED 1 FIRST"
+ * replays one job, and "SEED 0" what is tried without a job. Exit 0 only if all agree and, in a run
+ * of jobs from 0 on, every number, letter and mark was met. */
+#define _POSIX_C_SOURCE 200809L
+#include "draw.h"
+#include "reference/answer.h"
+
+#include <inttypes.h>
+#include <signal.h>
+#include <stdio.h>
+#include <stdlib.h>
+#include <string.h>
+#include <sys/wait.h>
+#include <unistd.h>
+
+enum { LINES = 3, NUMBERS = 20, LETTERS = 5 };
+enum { PROGRAM_JOBS = 150 };   /* the program `page` gets the tickets of so many jobs */
+enum { LONGER = 100000 };      /* and so many bytes past a ticket */
+enum { NO_JOB = -1 };          /* what is tried without a job */
+enum { WAIT_SECONDS = 60 };        /* seconds to wait for an answer */
+
+static const char letters[LETTERS + 1] = "EMSWN";
+
+static struct {
+    const char *cases, *page;
+    uint64_t seed, count, first;
+    int64_t job;
+    pid_t program;             /* the one that is running, or 0 */
+    unsigned long met[2][NUMBERS];             /* numbers, by cases and by page */
+    unsigned long letter[LETTERS], mark[2];    /* on the pages of cases */
+} run;
+
+/* ---- Reports ---- */
+
+/* Says how to replay it, and ends the run. */
+static void fail(void)
+{
+    printf("replay: pages %s %s %" PRIu64, run.cases, run.page, run.seed);
+    if (run.job == NO_JOB)
+        printf(" 0\n");
+    else
+        printf(" 1 %" PRId64 "\n", run.job);
+    fflush(stdout);
+    if (run.program > 0)
+        kill(run.program, SIGKILL);
+    _exit(1);
+}
+
+static void too_late(int cause)
+{
+    (void)cause;
+    printf("STOPPED: no answer in %d seconds\n", WAIT_SECONDS);
+    fail();
+}
+
+static void must(bool good, const char *what)
+{
+    if (good)
+        return;
+    perror(what);
+    exit(2);
+}
+
+/* A line of a page, as far as it goes. */
+static void print_line(const char *who, const uint8_t *line, size_t len)
+{
+    printf("  %-9s \"", who);
+    for (size_t k = 0; k < len && k < REF_LINE; k++)
+        printf(line[k] >= ' ' && line[k] < 127 ? "%c" : "\\x%02x", line[k]);
+    printf("\"\n");
+}
+
+/* The same from hexadecimal text. */
+static void print_hex_line(const char *who, const char *text)
+{
+    uint8_t line[REF_LINE];
+    unsigned byte;
+    size_t n = 0;
+
+    while (n < REF_LINE && sscanf(text + 2 * n, "%2x", &byte) == 1)
+        line[n++] = (uint8_t)byte;
+    print_line(who, line, n);
+}
+
+/* Where two answers differ: a line of the page, which is the last word; or the words from there. */
+static void print_answers(const char *have, const char *want)
+{
+    size_t at = 0, word;
+
+    while (have[at] != '\0' && have[at] == want[at])
+        at++;
+    for (word = at; word > 0 && want[word - 1] != ' '; word--)
+        ;
+    if (strlen(want + word) >= 2 * REF_LINE && strchr(want + word, ' ') == NULL) {
+        word += (at - word) / (2 * REF_LINE) * (2 * REF_LINE);
+        print_hex_line("cases", have + word);
+        print_hex_line("reference", want + word);
+    } else {
+        printf("  %-9s %.80s\n  %-9s %.80s\n", "cases", have + word, "reference", want + word);
+    }
+}
+
+/* ---- Jobs ---- */
+
+struct bytes {
+    const uint8_t *at;
+    size_t len;
+};
+
+/* A page asked for: a ticket, and rooms for both sheets and the page. */
+struct asked {
+    struct bytes ticket;
+    size_t room[3];
+};
+
+static struct {
+    uint8_t ticket[REF_TICKET], worse[REF_TICKET + SPARE], sheet[2][REF_SHEET], page[REF_PAGE];
+    struct ref_paged paged;    /* of the ticket as it is */
+    struct asked asked[LINES];
+} drawn;
+
+/* Rooms of which one or more are short by a byte or more, or all ample. */
+static void draw_rooms(struct chance *c, const size_t *exact, size_t *room)
+{
+    unsigned how = below(c, 10), which = below(c, 3);
+
+    memcpy(room, exact, 3 * sizeof room[0]);
+    if (how < 4) {
+        room[which]--;
+    } else if (how < 6) {
+        room[which] = below(c, (unsigned)exact[which]);
+    } else if (how < 8) {      /* all but the first ones are short */
+        for (unsigned k = which; k < 3; k++)
+            room[k] -= between(c, 1, (unsigned)exact[k]);
+    } else {
+        for (unsigned k = 0; k < 3; k++)
+            room[k] += how == 8 ? below(c, 50) : REF_PAGE;
+    }
+}
+
+/* Plans the ticket, for the rooms; the number must be 0. */
+static void plan_drawn(size_t n, size_t *exact)
+{
+    struct ref_paged *p = &drawn.paged;
+
+    if (ref_page(drawn.ticket, n, drawn.sheet[0], REF_SHEET, drawn.sheet[1], REF_SHEET, drawn.page,
+                 REF_PAGE, p) != 0)
+        exit(2);
+    exact[0] = p->planned.sheet_length[0];
+    exact[1] = p->planned.sheet_length[1];
+    exact[2] = p->length;
+}
+
+/* A job's lines: exact rooms, other rooms, and the ticket damaged. */
+static void draw_lines(uint64_t number)
+{
+    struct chance c = chance_for(run.seed, number);
+    static struct ref_job job;
+    struct bytes good = {drawn.ticket, 0}, worse = {drawn.worse, 0};
+    size_t exact[3];
+
+    draw_job(&c, &job);
+    good.len = ref_write_ticket(&job, drawn.ticket, sizeof drawn.ticket);
+    plan_drawn(good.len, exact);
+    memcpy(drawn.worse, drawn.ticket, good.len);
+    worse.len = damage_ticket(&c, &job, drawn.worse, good.len);
+    for (unsigned k = 0; k < LINES; k++)
+        drawn.asked[k].ticket = k == 2 ? worse : good;
+    memcpy(drawn.asked[0].room, exact, sizeof exact);
+    draw_rooms(&c, exact, drawn.asked[1].room);
+    draw_rooms(&c, exact, drawn.asked[2].room);
+}
+
+/* The lines of the longest page: exact rooms; 19; 18. */
+static void draw_longest_lines(void)
+{
+    struct chance c = chance_for(run.seed, 0);
+    static struct ref_job job;
+    size_t exact[3], n;
+
+    draw_longest(&c, &job);
+    n = ref_write_ticket(&job, drawn.ticket, sizeof drawn.ticket);
+    plan_drawn(n, exact);
+    if (n != REF_TICKET || exact[2] != REF_PAGE)
+        exit(2);
+    for (unsigned k = 0; k < LINES; k++) {
+        drawn.asked[k].ticket = (struct bytes){drawn.ticket, n};
+        drawn.asked[k].room[0] = exact[0];
+        drawn.asked[k].room[1] = exact[1] - (k == 2);
+        drawn.asked[k].room[2] = exact[2] - (k > 0);
+    }
+}
+
+/* ---- The program `cases` ---- */
+
+static char *put_call(char *to, const struct asked *a)
+{
+    to += sprintf(to, "page %s", a->ticket.len == 0 ? "-" : "");
+    to = put_hex(to, a->ticket.at, a->ticket.len);
+    return to + sprintf(to, " %zu %zu %zu", a->room[0], a->room[1], a->room[2]);
+}
+
+/* Does the same for the lines of each job, and then for those of the longest page. */
+static void each_job(void (*with)(const struct asked *, FILE *), FILE *file)
+{
+    for (uint64_t k = 0; k < run.count; k++) {
+        run.job = (int64_t)(run.first + k);
+        draw_lines(run.first + k);
+        for (unsigned line = 0; line < LINES; line++)
+            with(&drawn.asked[line], file);
+    }
+    run.job = NO_JOB;
+    if (run.first != 0)
+        return;
+    draw_longest_lines();
+    for (unsigned line = 0; line < LINES; line++)
+        with(&drawn.asked[line], file);
+}
+
+static void write_line(const struct asked *a, FILE *file)
+{
+    static char call[ANSWER_LINE];
+
+    put_call(call, a);
+    fprintf(file, "%s\n", call);
+}
+
+/* Counts the answer's number; and of a page with exact rooms, the mark and the letters. */
+static void count(const struct asked *a, const char *text)
+{
+    unsigned long number = strtoul(text, NULL, 10);
+
+    run.met[0][number]++;
+    if (number != 0 || a != &drawn.asked[0])
+        return;
+    run.mark[drawn.paged.planned.mark]++;
+    for (size_t at = REF_LINE - 2; at < drawn.paged.length - REF_LEGEND * REF_LINE; at += REF_LINE)
+        run.letter[strchr(letters, drawn.page[at]) - letters]++;
+}
+
+static void compare_line(const struct asked *a, FILE *file)
+{
+    static char call[ANSWER_LINE], parts[ANSWER_LINE], text[ANSWER_LINE], have[ANSWER_LINE];
+    size_t n = (size_t)(put_call(call, a) - call);
+
+    strcpy(parts, call);
+    if (!answer(parts, text))
+        exit(2);
+    count(a, text);
+    alarm(WAIT_SECONDS);
+    if (fgets(have, sizeof have, file) == NULL) {
+        printf("DISAGREE: cases ends without an answer\n  %s\n", call);
+        fail();
+    }
+    have[strcspn(have, "\n")] = '\0';
+    if (strncmp(have, call, n) != 0 || strncmp(have + n, " = ", 3) != 0) {
+        printf("DISAGREE: cases does not repeat the call\n  %s\n  cases: %.200s\n", call, have);
+        fail();
+    }
+    if (strcmp(have + n + 3, text) != 0) {
+        printf("DISAGREE: cases gives another answer\n");
+        print_answers(have + n + 3, text);
+        printf("  %s\n", call);
+        fail();
+    }
+}
+
+/* Starts a program with these as its standard input and output; it gets none of the pipes' ends
+ * beside. */
+static pid_t start(const char *path, int in, int out, const int *ends, unsigned how_many)
+{
+    pid_t child;
+
+    fflush(NULL);
+    child = fork();
+    must(child >= 0, "fork");
+    if (child > 0)
+        return child;
+    if (dup2(in, 0) < 0 || dup2(out, 1) < 0)
+        _exit(126);
+    for (unsigned k = 0; k < how_many; k++)
+        close(ends[k]);
+    execl(path, path, (char *)NULL);
+    perror(path);
+    _exit(127);
+}
+
+/* Waits for a program, which must end by itself and with status 0. */
+static void end(pid_t child, const char *name)
+{
+    int status;
+
+    alarm(WAIT_SECONDS);
+    must(waitpid(child, &status, 0) == child, "waitpid");
+    if (status != 0) {
+        printf("DISAGREE: %s ends %s %d\n", name, WIFSIGNALED(status) ? "by signal" : "with status",
+               WIFSIGNALED(status) ? WTERMSIG(status) : WEXITSTATUS(status));
+        fail();
+    }
+    alarm(0);
+}
+
+/* One process has all lines: another one writes them, and this one reads the answers. */
+static void try_cases(void)
+{
+    int ends[4], *to = ends, *from = ends + 2;
+    pid_t writer;
+    FILE *file;
+
+    must(pipe(to) == 0 && pipe(from) == 0, "pipe");
+    run.program = start(run.cases, to[0], from[1], ends, 4);
+    writer = fork();
+    must(writer >= 0, "fork");
+    close(to[0]);
+    close(from[1]);
+    if (writer == 0) {
+        close(from[0]);
+        file = fdopen(to[1], "w");
+        must(file != NULL, "fdopen");
+        each_job(write_line, file);
+        _exit(fclose(file) != 0);
+    }
+    close(to[1]);
+    file = fdopen(from[0], "r");
+    must(file != NULL, "fdopen");
+    each_job(compare_line, file);
+    if (fgetc(file) != EOF) {
+        printf("DISAGREE: cases writes more than was asked\n");
+        fail();
+    }
+    fclose(file);
+    end(run.program, "cases");
+    end(writer, "the writer of the lines");
+    run.program = 0;
+}
+
+/* ---- The program `page` ---- */
+
+/* What it should print: the page, or the number of the refusal. Gives the length. */
+static size_t want_text(struct bytes ticket, uint8_t *text)
+{
+    static uint8_t sheet[2][REF_SHEET];
+    struct ref_paged paged;
+    unsigned number = ref_page(ticket.at, ticket.len, sheet[0], REF_SHEET, sheet[1], REF_SHEET,
+                               text, REF_PAGE, &paged);
+
+    run.met[1][number]++;
+    return number == 0 ? paged.length : (size_t)sprintf((char *)text, "refused %u\n", number);
+}
+
+/* Its whole output, as far as there is room; gives the length. Its input comes from a file, so that
+ * it need not be read to the end. */
+static size_t print_page(struct bytes ticket, uint8_t *text, size_t room)
+{
+    FILE *input = tmpfile();
+    size_t len = 0;
+    ssize_t got;
+    int from[2];
+
+    must(input != NULL && fwrite(ticket.at, 1, ticket.len, input) == ticket.len, "a ticket's file");
+    must(fflush(input) == 0 && lseek(fileno(input), 0, SEEK_SET) == 0, "a ticket's file");
+    must(pipe(from) == 0, "pipe");
+    alarm(WAIT_SECONDS);
+    run.program = start(run.page, fileno(input), from[1], from, 2);
+    close(from[1]);
+    while (len < room && (got = read(from[0], text + len, room - len)) > 0)
+        len += (size_t)got;
+    close(from[0]);
+    end(run.program, "page");
+    run.program = 0;
+    fclose(input);
+    return len;
+}
+
+static void try_page(struct bytes ticket)
+{
+    static uint8_t want[REF_PAGE], have[REF_PAGE + REF_LINE];
+    size_t m = want_text(ticket, want), n = print_page(ticket, have, sizeof have), at = 0;
+
+    if (n == m && memcmp(have, want, n) == 0)
+        return;
+    while (at < n && at < m && have[at] == want[at])
+        at++;
+    printf("DISAGREE: page prints %zu bytes, the reference has %zu; byte %zu differs\n", n, m, at);
+    at -= at % REF_LINE;
+    print_line("page", have + at, n - at);
+    print_line("reference", want + at, m - at);
+    printf("  ticket of %zu bytes ", ticket.len);
+    for (size_t k = 0; k < ticket.len && k < REF_TICKET + SPARE; k++)
+        printf("%02x", ticket.at[k]);
+    printf("\n");
+    fail();
+}
+
+/* A ticket followed by more bytes, all alike. */
+static void try_longer(struct bytes ticket, size_t more, uint8_t fill_with)
+{
+    static uint8_t input[REF_TICKET + LONGER];
+
+    memcpy(input, ticket.at, ticket.len);
+    memset(input + ticket.len, fill_with, more);
+    try_page((struct bytes){input, ticket.len + more});
+}
+
+static void try_program(void)
+{
+    for (uint64_t k = 0; k < run.count && run.first + k < PROGRAM_JOBS; k++) {
+        run.job = (int64_t)(run.first + k);
+        draw_lines(run.first + k);
+        try_page(drawn.asked[0].ticket);
+        try_page(drawn.asked[2].ticket);
+    }
+    run.job = NO_JOB;
+    if (run.first != 0)
+        return;
+    draw_longest_lines();
+    try_page(drawn.asked[0].ticket);
+    try_page((struct bytes){drawn.ticket, 0});
+    for (unsigned k = 0; k < 2; k++) {
+        try_longer(drawn.asked[0].ticket, 1, k == 0 ? 0 : 0xff);
+        try_longer(drawn.asked[0].ticket, LONGER, k == 0 ? 0 : 0xff);
+        try_longer((struct bytes){drawn.ticket, REF_TICKET - 1}, 1, k == 0 ? 0 : 0xff);
+        try_longer((struct bytes){drawn.ticket, 1}, LONGER, k == 0 ? 0 : 0xff);
+    }
+}
+
+/* ---- All of it ---- */
+
+/* Prints what was met; false if something was not. */
+static bool all_met(void)
+{
+    bool all = run.mark[0] > 0 && run.mark[1] > 0;
+
+    for (unsigned by = 0; by < 2; by++) {
+        printf("  %s:", by == 0 ? "cases" : "page");
+        for (unsigned k = 0; k < NUMBERS; k++)
+            if (k <= 8 || (by == 0 && k >= 17)) {
+                printf(" %u:%lu", k, run.met[by][k]);
+                all = all && run.met[by][k] > 0;
+            }
+        printf("\n");
+    }
+    printf("  letters:");
+    for (unsigned k = 0; k < LETTERS; k++) {
+        printf(" %c:%lu", letters[k], run.letter[k]);
+        all = all && run.letter[k] > 0;
+    }
+    printf("; pages of the short plan %lu, of the sparing plan %lu\n", run.mark[REF_P_MIN],
+           run.mark[REF_P_CON]);
+    return all;
+}
+
+int main(int argc, char **argv)
+{
+    bool all;
+
+    if (argc < 3) {
+        fprintf(stderr, "usage: pages CASES PAGE [SEED [COUNT [FIRST]]]\n");
+        return 2;
+    }
+    run.cases = argv[1];
+    run.page = argv[2];
+    run.seed = argc > 3 ? strtoull(argv[3], NULL, 10) : 1;
+    run.count = argc > 4 ? strtoull(argv[4], NULL, 10) : 500;
+    run.first = argc > 5 ? strtoull(argv[5], NULL, 10) : 0;
+    signal(SIGALRM, too_late);
+    try_cases();
+    try_program();
+    printf("%" PRIu64 " jobs agree (seed %" PRIu64 "); numbers met:\n", run.count, run.seed);
+    all = all_met();
+    if (!all && run.first == 0 && run.count > 0)
+        printf("FAIL: a number, a letter or a mark was never met\n");
+    return all || run.first != 0 || run.count == 0 ? 0 : 1;
+}

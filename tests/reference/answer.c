@@ -1,0 +1,211 @@
+/* answer.c - the reference's answer to the call of a vector, as text. */
+#include "answer.h"
+#include "reference.h"
+
+#include <stdio.h>
+#include <stdlib.h>
+#include <string.h>
+
+enum { FILL = 0xa5, GUARD = 8 };
+
+struct bytes {
+    uint8_t *at;
+    size_t len;
+};
+
+static unsigned digit(char c)
+{
+    const char *digits = "0123456789abcdef", *at = strchr(digits, c);
+
+    if (c == '\0' || at == NULL)
+        exit(2);
+    return (unsigned)(at - digits);
+}
+
+/* "Byte strings are hexadecimal, - the empty one." */
+static struct bytes from_hex(const char *text)
+{
+    size_t len = strcmp(text, "-") == 0 ? 0 : strlen(text) / 2;
+    struct bytes b = {malloc(len + 1), len};
+
+    if (b.at == NULL)
+        exit(2);
+    for (size_t k = 0; k < len; k++)
+        b.at[k] = (uint8_t)(digit(text[2 * k]) << 4 | digit(text[2 * k + 1]));
+    return b;
+}
+
+char *put_hex(char *to, const uint8_t *bytes, size_t len)
+{
+    const char *digits = "0123456789abcdef";
+
+    for (size_t k = 0; k < len; k++) {
+        *to++ = digits[bytes[k] >> 4];
+        *to++ = digits[bytes[k] & 15];
+    }
+    *to = '\0';
+    return to;
+}
+
+/* A buffer, lent and filled. */
+struct lent {
+    uint8_t *at;
+    size_t room;
+};
+
+/* Room bytes and a guard after them. */
+static struct lent lend(size_t room)
+{
+    struct lent s = {malloc(room + GUARD), room};
+
+    if (s.at == NULL)
+        exit(2);
+    memset(s.at, FILL, room + GUARD);
+    return s;
+}
+
+/* 1 if a byte from start on is no longer the fill. */
+static int touched(const uint8_t *buffer, size_t start, size_t room)
+{
+    for (size_t k = start; k < room; k++)
+        if (buffer[k] != FILL)
+            return 1;
+    return 0;
+}
+
+/* Takes a buffer back; says if a byte past the length written, or of the guard, changed. */
+static char *take_back(char *to, struct lent s, size_t written)
+{
+    if (touched(s.at, written, s.room + GUARD))
+        to += sprintf(to, " and bytes past %zu of a buffer of %zu changed", written, s.room);
+    free(s.at);
+    return to;
+}
+
+/* The numbers, each read back from the bytes that a call from C writes. A slice that is too short
+ * for them gets the first of these bytes, and nothing past its end changes. */
+static char *put_numbers(char *to, const uint16_t *numbers, size_t how_many)
+{
+    uint8_t bytes[2 * REF_PLANNED_NUMBERS], part[sizeof bytes];
+
+    ref_fill_counts(numbers, how_many, bytes, 2 * how_many);
+    for (size_t k = 0; k < how_many; k++)
+        to += sprintf(to, "%s%u", k == 0 ? "" : " ", bytes[2 * k] << 8 | bytes[2 * k + 1]);
+    for (size_t len = 0; len < 2 * how_many; len++) {
+        memset(part, FILL, sizeof part);
+        ref_fill_counts(numbers, how_many, part, len);
+        if (memcmp(part, bytes, len) != 0 || touched(part, len, sizeof part))
+            to += sprintf(to, " and other bytes in a slice of %zu", len);
+    }
+    return to;
+}
+
+/* All that planning gives. */
+static char *put_planned(char *to, const struct ref_planned *p, const uint8_t *p_min,
+                         const uint8_t *p_con)
+{
+    uint16_t numbers[REF_PLANNED_NUMBERS];
+
+    ref_planned_numbers(p, numbers);
+    to = put_numbers(to + sprintf(to, " "), numbers, 2);
+    to = put_numbers(to + sprintf(to, " | "), numbers + 2, REF_CHECKED_NUMBERS);
+    to = put_numbers(to + sprintf(to, " | "), numbers + 2 + REF_CHECKED_NUMBERS,
+                     REF_CHECKED_NUMBERS);
+    to = put_hex(to + sprintf(to, " | "), p_min, p->sheet_length[REF_P_MIN]);
+    return put_hex(to + sprintf(to, " | "), p_con, p->sheet_length[REF_P_CON]);
+}
+
+static void answer_plan(struct bytes ticket, size_t ns, size_t np, char *to)
+{
+    struct lent p_min = lend(ns), p_con = lend(np);
+    struct ref_planned p;
+    unsigned number = ref_plan(ticket.at, ticket.len, p_min.at, ns, p_con.at, np, &p);
+
+    to += sprintf(to, "%u", number);
+    if (number == 0)
+        to = put_planned(to, &p, p_min.at, p_con.at);
+    to = take_back(to, p_min, p.sheet_length[REF_P_MIN]);
+    take_back(to, p_con, p.sheet_length[REF_P_CON]);
+}
+
+static void answer_page(struct bytes ticket, size_t ns, size_t np, size_t ng, char *to)
+{
+    struct lent p_min = lend(ns), p_con = lend(np), page = lend(ng);
+    struct ref_paged p;
+    unsigned number = ref_page(ticket.at, ticket.len, p_min.at, ns, p_con.at, np, page.at, ng, &p);
+
+    to += sprintf(to, "%u", number);
+    if (number == 0) {
+        to = put_planned(to, &p.planned, p_min.at, p_con.at);
+        to = put_hex(to + sprintf(to, " | %zu ", p.length), page.at, p.length);
+    }
+    to = take_back(to, p_min, p.planned.sheet_length[REF_P_MIN]);
+    to = take_back(to, p_con, p.planned.sheet_length[REF_P_CON]);
+    take_back(to, page, p.length);
+}
+
+static void answer_check(struct bytes ticket, struct bytes sheet, char *to)
+{
+    uint16_t numbers[REF_CHECKED_NUMBERS];
+    struct ref_counts counts;
+    unsigned number = ref_check(ticket.at, ticket.len, sheet.at, sheet.len, &counts);
+
+    to += sprintf(to, "%u", number);
+    if (number == 0) {
+        ref_checked_numbers(&counts, numbers);
+        put_numbers(to + sprintf(to, " "), numbers, REF_CHECKED_NUMBERS);
+    }
+}
+
+static void answer_choose(struct bytes ticket, struct bytes first, struct bytes second, char *to)
+{
+    uint16_t numbers[REF_CHOSEN_NUMBERS];
+    struct ref_chosen chosen;
+    unsigned number = ref_choose(ticket.at, ticket.len, first.at, first.len, second.at, second.len,
+                                 &chosen);
+
+    to += sprintf(to, "%u", number);
+    if (number == 0) {
+        ref_chosen_numbers(&chosen, numbers);
+        put_numbers(to + sprintf(to, " "), numbers, REF_CHOSEN_NUMBERS);
+    }
+}
+
+static size_t room_of(const char *word)
+{
+    return strtoul(word, NULL, 10);
+}
+
+bool answer(char *call, char *to)
+{
+    enum { MOST = 6 };         /* one more than any call has */
+    struct bytes ticket, sheet, other;
+    const char *word[MOST];
+    unsigned words = 0;
+    bool known = true;
+
+    for (char *w = strtok(call, " "); w != NULL && words < MOST; w = strtok(NULL, " "))
+        word[words++] = w;
+    if (words < 3)
+        return false;
+    ticket = from_hex(word[1]);
+    if (strcmp(word[0], "plan") == 0 && words == 4) {
+        answer_plan(ticket, room_of(word[2]), room_of(word[3]), to);
+    } else if (strcmp(word[0], "page") == 0 && words == 5) {
+        answer_page(ticket, room_of(word[2]), room_of(word[3]), room_of(word[4]), to);
+    } else if (strcmp(word[0], "check") == 0 && words == 3) {
+        sheet = from_hex(word[2]);
+        answer_check(ticket, sheet, to);
+        free(sheet.at);
+    } else if (strcmp(word[0], "choose") == 0 && words == 4) {
+        sheet = from_hex(word[2]);
+        other = from_hex(word[3]);
+        answer_choose(ticket, sheet, other, to);
+        free(sheet.at);
+        free(other.at);
+    } else {
+        known = false;
+    }
+    free(ticket.at);
+    return known;
+}
