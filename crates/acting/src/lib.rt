@@ -6,7 +6,7 @@ use writing::Actions;
 ghost use mathlib.Core.Path.{_≡_};
 ghost use Prim.Native.Nat.{_≤_, _<_};
 ghost use lib.ListN.{length, getD};
-ghost use Rattle.lookup.specs.Lookup.{Below};
+ghost use Rattle.bits.specs.Bits.{Below};
 ghost use Rattle.lookup.specs.Desk.{helds, looks, ofDisk};
 ghost use Rattle.choosing.specs.Moving.{Ahead};
 ghost use Rattle.acting.specs.Acting.{Small, column, noted, takenIn};

@@ -7,10 +7,10 @@ use Prim.Native.Nat.{ℕ, zero, suc, _+_, _-_, _*_, _/_, _%_, _^_, _<_, _≤_}
 use native.Mathlib.Numerals.{add-one}
 use native.Mathlib.Omega.{arith}
 use lib.Dec.{leb, ltb}
-use lib.ListN.{length, take, drop, getD, set, replicate, length-append, length-drop, length-set, drop-of-length-le}
+use lib.ListN.{length, take, drop, getD, set, replicate, length-append, length-drop, length-set, drop-of-length-le, List·getD-eq-default}
 use lib.Seq.{length-take-le, take-suc, drop-cons, append-snoc, take-append-seam, drop-drop, drop-append-le, set-at, set-out}
 use borrow.Author.Tests.{ltb-true, ltb-false, leb-true, leb-false}
-use Rattle.bits.specs.Bits.{bits, leading, bytes, bytesFor, pack, over, laid}
+use Rattle.bits.specs.Bits.{bits, leading, bytes, bytesFor, pack, over, laid, Below}
 use Rattle.bits.specs.Reading.{Read, stop, Reader, bind, _>>=_, field}
 use Rattle.bits.specs.Fields.{pickField, fieldAt, readOf, putBit, putBits, clearFrom, laidAt}
 use Rattle.bits.specs.declared.Field.{Field}
@@ -214,3 +214,18 @@ laid-one k x y lent h =
 
 pub laid-none : (k x y : ℕ) (lent : List ℕ) → length lent ≤ k → laidAt k (x ∷ y ∷ []) lent ≡ lent
 laid-none k x y lent h = laid-one k x y lent (omega arith) ∙ set-out lent k x h
+
+-- Numbers below a bound: past its end a list has the number 0,
+pub below-any : (n : ℕ) (l : List ℕ) → 0 < n → Below n l → (i : ℕ) → getD l i 0 < n
+below-any n l h below i =
+    by-test (ltb i (length l))
+    (λ e. below i (ltb-true i (length l) e))
+    (λ e. rw (List·getD-eq-default l 0 {n = i} (ltb-false i (length l) e)) h)
+
+-- and numbers laid over others are small where both are.
+pub laid-below : (n : ℕ) (s l : List ℕ) → Below n s → Below n l → Below n (laid s l)
+unfolding laid
+laid-below n [] l p q i h = q i h
+laid-below n (x ∷ s) [] p q i h = absurd (omega arith)
+laid-below n (x ∷ s) (y ∷ l) p q zero h = p 0 (omega arith)
+laid-below n (x ∷ s) (y ∷ l) p q (suc i) h = laid-below n s l (λ k m. p (suc k) (omega arith)) (λ k m. q (suc k) (omega arith)) i (omega arith)

@@ -1,8 +1,8 @@
 -- Document 01, "Ticket and sheet": "Fields are packed without gaps, most significant bit first. Numbers in fields are unsigned."
 -- A bit is the number 0 or 1. Assumes nothing.
 use mathlib.Core.List.{List, [], _∷_, _++_}
-use Prim.Native.Nat.{ℕ, zero, suc, _+_, _*_, _/_, _%_, _^_}
-use lib.ListN.{length, drop}
+use Prim.Native.Nat.{ℕ, zero, suc, _+_, _*_, _/_, _%_, _^_, _<_}
+use lib.ListN.{length, getD, drop}
 
 -- The number v as a field of w bits: its w lowest binary digits, most significant first.
 unfoldable pub digits : ℕ → ℕ → List ℕ
@@ -55,3 +55,7 @@ unfoldable pub laid : List ℕ → List ℕ → List ℕ
 laid [] lent = lent
 laid (x ∷ s) [] = []
 laid (x ∷ s) (y ∷ lent) = x ∷ laid s lent
+
+-- Every number of a list is below a bound.
+abbrev pub Below : ℕ → List ℕ → Type 0
+Below n l = (i : ℕ) → i < length l → getD l i 0 < n

@@ -3,10 +3,10 @@
 // comments. Standard output has the same lines, each call followed by ` = ` and what it gives, in the vectors' form.
 use libc::STDIN_FILENO;
 use libc::STDOUT_FILENO;
-use planner::Counts;
-use planner::Mark;
-use planner::Planned;
-use planner::Which;
+use returning::Counts;
+use returning::Mark;
+use returning::Planned;
+use returning::Which;
 ghost use mathlib.Core.Path.{_≡_};
 ghost use Prim.Native.Nat.{_≤_, _<_};
 ghost use lib.ListN.{length};

@@ -4,7 +4,7 @@ pub mod moving;
 use lookup::Desk;
 ghost use mathlib.Core.Path.{_≡_};
 ghost use Prim.Native.Nat.{_+_, _-_, _≤_, _<_};
-ghost use Rattle.lookup.specs.Lookup.{Below};
+ghost use Rattle.bits.specs.Bits.{Below};
 ghost use Rattle.lookup.specs.Desk.{nexts, laters, helds};
 ghost use Rattle.choosing.specs.Choosing.{keyAt, lastPlace, someBeyond, alsoIdle, choiceFrom};
 

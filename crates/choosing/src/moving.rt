@@ -4,7 +4,7 @@ use lookup::Steps;
 ghost use mathlib.Core.Path.{_≡_};
 ghost use Prim.Native.Nat.{_≤_, _<_};
 ghost use lib.ListN.{length, getD};
-ghost use Rattle.lookup.specs.Lookup.{Below};
+ghost use Rattle.bits.specs.Bits.{Below};
 ghost use Rattle.lookup.specs.Desk.{ofDisk, looks};
 ghost use Rattle.choosing.specs.Moving.{Ahead, moveFrom, movedOn};
 

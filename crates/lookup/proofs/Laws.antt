@@ -4,30 +4,19 @@ use mathlib.Core.Logic.{_≢_}
 use mathlib.Core.List.{List, [], _∷_}
 use Prim.Native.Nat.{ℕ, zero, suc, _+_, _≤_, _<_}
 use native.Mathlib.Omega.{arith}
-use lib.Dec.{eqb, ltb}
-use lib.ListN.{length, getD, set, length-set, List·getD-eq-default}
+use lib.Dec.{eqb}
+use lib.ListN.{length, getD, set, length-set}
 use lib.Seq.{getD-set-same, getD-set-other, ext-getD}
-use borrow.Author.Tests.{eqb-true, eqb-false, ltb-true, ltb-false}
+use borrow.Author.Tests.{eqb-true, eqb-false}
 use Rattle.bits.specs.Bits.{laid}
 use Rattle.bits.proofs.Logic.{by-test}
 use Rattle.model.specs.Plans.{each}
 use Rattle.model.specs.Rules.{distance}
-use Rattle.lookup.specs.Lookup.{Below, firsts, nextOf, agains, refDisks, chainFrom}
+use Rattle.lookup.specs.Lookup.{firsts, nextOf, agains, refDisks, chainFrom}
+use Rattle.model.proofs.Plans.{length-each}
 use Rattle.model.proofs.Distances.{distance-from, distance-to, distance-hit, distance-least, distance-skip, distance-on}
 
--- past its end a list has the value 0
-pub below-any : (n : ℕ) (l : List ℕ) → 0 < n → Below n l → (i : ℕ) → getD l i 0 < n
-below-any n l h below i =
-    by-test (ltb i (length l))
-    (λ e. below i (ltb-true i (length l) e))
-    (λ e. rw (List·getD-eq-default l 0 {n = i} (ltb-false i (length l) e)) h)
-
 -- the list f i, f (i + 1), ..
-
-pub length-each : {A : Type 0} (f : ℕ → A) (i n : ℕ) → length (each f i n) ≡ n
-unfolding each
-length-each f i zero = refl
-length-each f i (suc n) = ap suc (length-each f (suc i) n)
 
 each-from : {A : Type 0} (f : ℕ → A) (i n k : ℕ) (d : A) (m : ℕ) → m ≡ i + k → k < n → getD (each f i n) k d ≡ f m
 unfolding each

@@ -8,8 +8,9 @@ use lib.Dec.{eqb, ltb}
 use lib.ListN.{length, getD, set, length-set, List·getD-eq-default}
 use lib.Seq.{getD-set-same, getD-set-other}
 use borrow.Author.Tests.{eqb-true, eqb-false, ltb-true, ltb-false}
+use Rattle.bits.specs.Bits.{Below}
 use Rattle.bits.proofs.Logic.{by-test}
-use Rattle.lookup.specs.Lookup.{Below, firsts, agains, refDisks}
+use Rattle.lookup.specs.Lookup.{firsts, agains, refDisks}
 use Rattle.lookup.specs.Desk.{row, withCell, ofBlock, opened, stepped}
 
 -- another row

@@ -1,15 +1,11 @@
 -- Tables of forward distances. Document 01, "The two plans": "A block's distance is the position of its first reference at or after the next
 -- read, or never." Assumes nothing.
 use mathlib.Core.List.{List, map}
-use Prim.Native.Nat.{ℕ, suc, _<_}
+use Prim.Native.Nat.{ℕ, suc}
 use lib.ListN.{length, getD}
 use Rattle.bits.specs.Bits.{laid}
 use Rattle.model.specs.Rules.{distance}
 use Rattle.model.specs.Plans.{each}
-
--- Every value of a list is below n.
-abbrev pub Below : ℕ → List ℕ → Type 0
-Below n l = (i : ℕ) → i < length l → getD l i 0 < n
 
 -- For each number below n its first place in a list at or after p, or the list's length.
 unfoldable pub firsts : List ℕ → ℕ → ℕ → List ℕ

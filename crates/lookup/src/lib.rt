@@ -3,7 +3,8 @@
 ghost use mathlib.Core.Path.{_≡_};
 ghost use Prim.Native.Nat.{_<_, _≤_};
 ghost use lib.ListN.{length, getD};
-ghost use Rattle.lookup.specs.Lookup.{Below, firsts, agains, refDisks};
+ghost use Rattle.bits.specs.Bits.{Below};
+ghost use Rattle.lookup.specs.Lookup.{firsts, agains, refDisks};
 ghost use Rattle.lookup.specs.Desk.{cell, withCell, ofBlock, ofDisk, opened, stepped};
 
 // A position in the reference list. "Never" is the list's length.

@@ -9,6 +9,7 @@ use native.Mathlib.Omega.{arith}
 use lib.Dec.{ltb}
 use lib.ListN.{length, getD, take, drop, replicate, length-append, length-replicate, length-map}
 use lib.Seq.{take-at, drop-at, getD-at, drop-append-add, getD-append-add, getD-take, getD-drop}
+use Rattle.bits.specs.Bits.{Below}
 use Rattle.bits.proofs.Logic.{by-test, Each, each-at, at-each, getD-same}
 use Rattle.model.specs.Job.{Sound, Job, diskCount, refCount}
 use Rattle.model.specs.Playing.{State, start, playRound, play}
@@ -285,7 +286,7 @@ unfolding reasonsOf Each
 all-below [] = tt
 all-below (first ∷ more) = round-below first (reasonsOf more) (all-below more)
 
-pub reasons-below : (plan : List (List Choice)) (i : ℕ) → i < length (reasonsOf plan) → getD (reasonsOf plan) i 0 < 5
+pub reasons-below : (plan : List (List Choice)) → Below 5 (reasonsOf plan)
 reasons-below plan i l = each-at (λ (n : ℕ). n < 5) (reasonsOf plan) (all-below plan) i 0 l
 
 -- The page of a plan: its lines, then the legend.

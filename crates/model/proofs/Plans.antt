@@ -3,7 +3,7 @@
 use mathlib.Core.Path.{_≡_, refl, sym, ap, _∙_, subst}
 use mathlib.Core.Logic.{_≢_}
 use mathlib.Core.Bool.{Bool, true, false}
-use mathlib.Core.List.{List, map}
+use mathlib.Core.List.{List, [], _∷_, _++_, map}
 use Prim.Native.Nat.{ℕ, zero, suc, _+_, _≤_, _<_}
 use native.Mathlib.Omega.{arith}
 use lib.Dec.{ltb}
@@ -27,6 +27,14 @@ pub length-each : {A : Type 0} (f : ℕ → A) (i k : ℕ) → length (each f i 
 unfolding each
 length-each f i zero = refl
 length-each f i (suc k) = ap suc (length-each f (suc i) k)
+
+-- one more
+pub each-more : {A : Type 0} (f : ℕ → A) (i k : ℕ) → each f i (suc k) ≡ each f i k ++ (f (i + k) ∷ [])
+unfolding each
+each-more f i zero = ap (λ (n : ℕ). f n ∷ []) (let e : i ≡ i + 0 = omega arith in e)
+each-more f i (suc k) =
+    let e : suc i + k ≡ i + suc k = omega arith in
+    ap (λ (l : List _). f i ∷ l) (each-more f (suc i) k ∙ ap (λ (n : ℕ). each f (suc i) k ++ (f n ∷ [])) e)
 
 length-actions : (f : ℕ → Choice) (i k : ℕ) → length (map action (each f i k)) ≡ k
 unfolding each

@@ -19,7 +19,7 @@ use Rattle.model.specs.Playing.{rounds}
 use Rattle.model.specs.Rules.{short, sparing}
 use Rattle.model.specs.Plans.{scheduleOf}
 use Rattle.model.specs.Sheet.{sheetOf}
-use Rattle.model.specs.Calls.{Counts, countsOf, shortCounts, Which, isFirst, isSecond, ofTwo, whichFor, isSparing, Planned, markFor, chosen, handed, plannedOf, planAnswer, checkAnswer, checkRefusals, among, ChosenSheet, chosenOf, chosenFrom, chooseAnswer, returnedChoice, sheetAfter}
+use Rattle.model.specs.Calls.{Counts, countsOf, shortCounts, Which, isFirst, isSecond, ofTwo, whichFor, isSparing, Planned, markFor, handed, plannedOf, planAnswer, checkAnswer, checkRefusals, among, ChosenSheet, chosenOf, chosenFrom, chooseAnswer, returnedChoice, sheetAfter}
 use Rattle.model.proofs.Choosing.{short-lawful, sparing-lawful}
 use Rattle.model.proofs.Numbers.{check-number, check-within}
 use Rattle.model.proofs.Longest.{passed-16-bits}

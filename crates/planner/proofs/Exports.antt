@@ -3,7 +3,6 @@ use mathlib.Core.Path.{_≡_, refl, sym, ap, _∙_}
 use mathlib.Core.List.{List, _∷_}
 use mathlib.Core.Option.{some}
 use Prim.Native.Nat.{ℕ, _≤_}
-use native.Mathlib.Omega.{arith}
 use lib.ListN.{getD}
 use mir.Val.{Fits as Machine}
 use mir.Syntax.{w32}
@@ -20,12 +19,12 @@ use Rattle.model.proofs.TwoSheets.{choose-within}
 use Rattle.model.proofs.Bytes
 use Rattle.checking.specs.Checking.{checkedOf}
 use Rattle.checking.specs.declared.Checked.{Checked}
-use Rattle.planner.specs.Planner.{markAs, plannedAs, markNumber, ofWhich, chosenAs}
-use Rattle.planner.specs.declared.Planned.{Planned}
-use Rattle.planner.specs.declared.Chosen.{Chosen}
+use Rattle.returning.specs.Returning.{markAs, plannedAs, markNumber, ofWhich, chosenAs}
+use Rattle.returning.specs.declared.Planned.{Planned}
+use Rattle.returning.specs.declared.Chosen.{Chosen}
 use Rattle.planner.proofs.Laws.{refused-by, given-by, number-small, sixteen, check-few, check-is, check-passing}
-use Rattle.planner.proofs.TwoSheets.{two-chosen}
-use Rattle.planner.proofs.Laying.{laid-two, laid-twenty}
+use Rattle.returning.proofs.TwoSheets.{two-chosen}
+use Rattle.returning.proofs.Laying.{laid-two, laid-twenty}
 
 -- the numbers that the code writes for a schedule's counts
 abbrev numbersOf : ℕ → List ℕ → List ℕ

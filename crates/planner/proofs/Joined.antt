@@ -11,7 +11,8 @@ use Rattle.model.specs.Calls.{Which as WhichGiven}
 use Rattle.model.specs.Calls.{Planned as PlanGiven}
 use Rattle.model.specs.Calls.{PlannedPage as PageGiven}
 use Rattle.model.proofs.Promises.{part-handed, plan-refused, page-exactly, sheet-handed, choose-refused}
-use Rattle.planner.specs.Planner.{plannedAs, planInto, pageInto, whichAs, whichGiven, chosenAs}
+use Rattle.returning.specs.Returning.{plannedAs, whichAs, whichGiven, chosenAs}
+use Rattle.planner.specs.Planner.{planInto, pageInto}
 
 -- by the contracts of both: what `part` gives after a planning call that gave `a`
 abbrev pub partOfCall : Answer PlanGiven → List ℕ → List ℕ → List ℕ

@@ -1,7 +1,5 @@
 pub mod Joined
 pub mod Laws
-mod Rooms
+mod Promised
 mod TwoSheets
-mod Laying
 mod Exports
-mod Pages

@@ -1,50 +1,21 @@
--- What the choice gives, from what the checks of its two sheets give; and planning's mark and part by the same choice. Assumes nothing.
-use mathlib.Core.Path.{_≡_, refl, sym, ap, _∙_, subst}
+-- What the choice gives, from what the checks of its two sheets give. Assumes nothing.
+use mathlib.Core.Path.{_≡_, refl, sym, ap, _∙_}
 use mathlib.Core.List.{List}
 use mathlib.Core.Option.{some}
 use Prim.Native.Nat.{ℕ, _≤_}
 use native.Mathlib.Omega.{arith}
-use lib.ListN.{length, take}
+use lib.ListN.{length}
 use Rattle.bits.specs.Reading.{Answer, given, refused}
 use Rattle.model.specs.Ticket.{ticketOf}
-use Rattle.model.specs.Calls.{Counts, Which, isFirst, isSecond, ofTwo, whichFor, isShort, isSparing, markFor, chosen, partOf, checkAnswer, checkFor, ChosenSheet, chosenOf, chooseAnswer, returnedChoice, sheetHanded}
-use Rattle.model.proofs.Bytes.{chosen-two}
+use Rattle.model.specs.Calls.{Counts, Which, isFirst, isSecond, ofTwo, whichFor, checkAnswer, checkFor, ChosenSheet, chosenOf, chooseAnswer, returnedChoice}
 use Rattle.model.proofs.TwoSheets.{chosen-given, both-pass, first-refused, second-refused, length-two}
 use Rattle.model.proofs.Promises.{chosen-passes}
 use Rattle.checking.specs.Checking.{checkedOf}
 use Rattle.checking.specs.declared.Checked.{Checked}
-use Rattle.planner.specs.Planner.{markAs, whichAs, whichGiven, whichBegins, markOf, ofWhich, chosenAs, preferenceOf, Preferred}
-use Rattle.planner.specs.declared.Chosen.{Chosen}
-use Rattle.planner.specs.declared.Which.{Which as WhichOf}
+use Rattle.returning.specs.Returning.{whichAs, chosenAs, preferenceOf}
+use Rattle.returning.specs.declared.Chosen.{Chosen}
+use Rattle.planner.specs.Planner.{Preferred}
 use Rattle.planner.proofs.Laws.{refused-by, check-is, check-passing}
-
--- The mark, a number and the part, by which sheet is handed back.
-
-pub mark-chosen : (a b : ℕ) → markOf (whichAs (some (whichFor a b))) ≡ markAs (some (markFor a b))
-unfolding markFor
-mark-chosen a b = go (whichFor a b)
-  where
-    go : (w : Which) → markOf (whichAs (some w)) ≡ markAs (some (ofTwo w isShort isSparing))
-    go isFirst = refl
-    go isSecond = refl
-
-pub two-chosen : (w : Which) (m n : ℕ) → ofWhich (whichAs (some w)) m n ≡ ofTwo w m n
-two-chosen isFirst m n = refl
-two-chosen isSecond m n = refl
-
-pub two-marked : (a b m n : ℕ) → ofWhich (whichAs (some (whichFor a b))) m n ≡ chosen (markFor a b) m n
-unfolding markFor
-two-marked a b m n = two-chosen (whichFor a b) m n ∙ sym (chosen-two (whichFor a b) m n)
-
-pub part-chosen : {A : Type 0} (n a b : ℕ) (x y r : List ℕ) (p q s : A) (w : WhichOf) → w ≡ whichAs (some (whichFor a b))
-    → r ≡ sheetHanded (whichGiven w) n x y → s ≡ whichBegins w p q → (r ≡ partOf n a b x y) × (s ≡ chosen (markFor a b) p q)
-unfolding partOf markFor sheetHanded
-part-chosen n a b x y r p q s w e h k = go (whichFor a b) (subst (λ (v : WhichOf). (r ≡ sheetHanded (whichGiven v) n x y) × (s ≡ whichBegins v p q)) e (h, k))
-  where
-    go : (v : Which) → (r ≡ sheetHanded (whichGiven (whichAs (some v))) n x y) × (s ≡ whichBegins (whichAs (some v)) p q)
-        → (r ≡ take n (chosen (ofTwo v isShort isSparing) x y)) × (s ≡ chosen (ofTwo v isShort isSparing) p q)
-    go isFirst k = k
-    go isSecond k = k
 
 -- the other sheet takes no fewer rounds than the one handed back
 no-fewer : (a b : Counts) (w : Which) → ofTwo w a b .rounds ≤ a .rounds → ofTwo w a b .rounds ≤ b .rounds → ofTwo w a b .rounds ≤ ofTwo w b a .rounds

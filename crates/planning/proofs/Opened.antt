@@ -1,12 +1,12 @@
 -- The desk that `lookup::open` makes is right where buffers are empty, and its sizes are those that `drive` asks; what `run` lends and gives.
 -- Assumes nothing.
 use mathlib.Core.Path.{_≡_, refl, sym, ap, _∙_, subst}
-use mathlib.Core.List.{List, []}
+use mathlib.Core.List.{List}
 use Prim.Native.Nat.{ℕ, suc, _≤_, _<_}
 use native.Mathlib.Omega.{arith}
 use lib.ListN.{length, getD, take, replicate, length-take, length-replicate, getD-replicate}
 use lib.Seq.{getD-take}
-use Rattle.bits.specs.Bits.{bytes, laid}
+use Rattle.bits.specs.Bits.{bytes, laid, Below}
 use Rattle.bits.proofs.Logic.{clash, getD-same}
 use Rattle.job.specs.Meaning.{jobOf, Fits}
 use Rattle.job.specs.declared.Job.{Job as Stored}
@@ -19,7 +19,7 @@ use Rattle.model.specs.Sheet.{sheetBits}
 use Rattle.model.proofs.Rounds.{ready-start}
 use Rattle.model.proofs.Buffers.{none-resident, load-none}
 use Rattle.model.proofs.Distances.{distance-from, distance-to}
-use Rattle.lookup.specs.Lookup.{Below, firsts, refDisks, chainFrom}
+use Rattle.lookup.specs.Lookup.{firsts, refDisks, chainFrom}
 use Rattle.lookup.specs.Desk.{laters, opened, stepped}
 use Rattle.lookup.proofs.Laws.{firsts-length, firsts-at, refDisks-length, chain-to, chain-hit, chain-head, chain-distance}
 use Rattle.playing.specs.Playing.{emptyBuffers}

@@ -1,16 +1,16 @@
 -- Each turn and each reference read keep the sizes. Assumes nothing.
 use mathlib.Core.Path.{_≡_, sym, ap, _∙_, subst}
-use mathlib.Core.List.{List, []}
+use mathlib.Core.List.{List}
 use Prim.Native.Nat.{ℕ, suc, _+_, _-_, _*_, _≤_, _<_}
 use native.Mathlib.Omega.{arith}
 use lib.Dec.{eqb, ltb, lit<}
 use lib.ListN.{length, getD, set, length-set, List·getD-eq-default}
 use lib.Seq.{getD-set-same, getD-set-other}
 use borrow.Author.Tests.{eqb-true, eqb-false, ltb-true, ltb-false}
+use Rattle.bits.specs.Bits.{Below}
 use Rattle.bits.proofs.Logic.{by-test}
-use Rattle.lookup.specs.Lookup.{Below}
+use Rattle.bits.proofs.Fields.{below-any}
 use Rattle.lookup.specs.Desk.{row, cell, nexts, helds, looks, ofBlock}
-use Rattle.lookup.proofs.Laws.{below-any}
 use Rattle.lookup.proofs.Rows.{row-other, below-set, below-cell}
 use Rattle.playing.specs.Playing.{fetchInto, replaceIn, discardFrom, consumeOne}
 use Rattle.playing.specs.declared.Buffers.{Buffers}

@@ -7,7 +7,7 @@ use lib.Dec.{ltb, lit<}
 use lib.ListN.{length, getD, set, replicate, length-set, length-append, List·getD-eq-default}
 use lib.Seq.{ext-getD}
 use borrow.Author.Tests.{ltb-true, ltb-false}
-use Rattle.bits.specs.Bits.{digits, leading, bytes}
+use Rattle.bits.specs.Bits.{digits, leading, bytes, Below}
 use Rattle.bits.specs.Fields.{putBits, clearFrom}
 use Rattle.bits.proofs.Logic.{by-test, Each}
 use Rattle.bits.proofs.Bits.{Bits, append-bits, length-bytes, length-digits}
@@ -18,7 +18,6 @@ use Rattle.model.specs.Sheet.{roundBits, roundsBits, sheetBits}
 use Rattle.model.proofs.Longest.{length-rounds}
 use Rattle.model.proofs.Plans.{length-each}
 use Rattle.model.proofs.Bytes.{getD-each, rounds-bits}
-use Rattle.lookup.specs.Lookup.{Below}
 use Rattle.writing.specs.Heading.{headed}
 use Rattle.writing.specs.Tallying.{tallied}
 use Rattle.writing.specs.Writing.{actionIn, actionsIn}

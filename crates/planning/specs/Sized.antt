@@ -2,7 +2,7 @@
 use mathlib.Core.Path.{_≡_}
 use Prim.Native.Nat.{ℕ, suc, _≤_, _<_}
 use lib.ListN.{length, getD}
-use Rattle.lookup.specs.Lookup.{Below}
+use Rattle.bits.specs.Bits.{Below}
 use Rattle.lookup.specs.Desk.{row, nexts, helds, looks, ofBlock, ofDisk}
 use Rattle.choosing.specs.Moving.{Ahead}
 use Rattle.writing.specs.Writing.{FETCHED, DISCARDED}

@@ -2,16 +2,16 @@
 use mathlib.Core.Path.{_≡_, refl, sym, ap, ap₂, _∙_}
 use mathlib.Core.List.{List, [], _∷_, _++_, append-assoc}
 use mathlib.Core.Option.{Option, none, some}
-use Prim.Native.Nat.{ℕ, zero, suc, _+_, _-_, _/_, _%_, _^_, _≤_, _<_}
+use Prim.Native.Nat.{ℕ, suc, _+_, _-_, _/_, _%_, _≤_, _<_}
 use native.Mathlib.Omega.{arith}
 use lib.Dec.{ltb}
-use lib.ListN.{length, getD, replicate, length-append}
+use lib.ListN.{length, replicate, length-append}
 use borrow.Author.Tests.{ltb-true, ltb-false}
 use Rattle.bits.proofs.Logic.{by-test}
 use Rattle.model.specs.Rules.{Choice, intoEmpty, overMinBlock, minBlockSooner, waits, noneMissing}
 use Rattle.model.specs.Plans.{each}
 use Rattle.model.specs.Text.{text, decimal, rightIn}
-use Rattle.model.specs.Page.{letter, blockText, fetchedBlock, discardedBlock, lineOf, legend, reason}
+use Rattle.model.specs.Page.{blockText, fetchedBlock, discardedBlock, lineOf, reason}
 use Rattle.model.proofs.Text.{decimal-one, decimal-more}
 use Rattle.model.proofs.Page.{SmallChoice, reason-letter}
 use Rattle.printing.specs.Printing.{columnOf, blockColumn, lineBytes}

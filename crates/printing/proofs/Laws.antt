@@ -1,13 +1,12 @@
 -- The cases of the definitions: columns, actions read back, and places. Assumes nothing.
-use mathlib.Core.Path.{_≡_, sym, ap, _∙_}
+use mathlib.Core.Path.{_≡_}
 use mathlib.Core.Logic.{_≢_}
 use mathlib.Core.List.{List}
 use Prim.Native.Nat.{ℕ, _+_, _/_, _%_, _≤_, _<_}
-use lib.Dec.{ltb, eqb}
+use lib.Dec.{ltb}
 use borrow.Author.Tests.{lt-ltb, le-ltb, eq-eqb, ne-eqb}
 use Rattle.bits.specs.Fields.{fieldAt}
 use Rattle.bits.proofs.Logic.{and-true, and-false-left, and-false-right}
-use Rattle.printing.specs.declared.Shown.{Shown}
 use Rattle.printing.specs.declared.Place.{Place}
 use Rattle.printing.specs.Printing.{columnOf, blockColumn, valueOf, shownAt, placeAfter}
 

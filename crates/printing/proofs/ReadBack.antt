@@ -1,12 +1,11 @@
 -- The page read back from a plan's sheet and reasons is the page of the plan. Assumes nothing.
-use mathlib.Core.Path.{_≡_, refl, sym, ap, ap₂, _∙_, subst}
+use mathlib.Core.Path.{_≡_, refl, sym, ap, ap₂, _∙_}
 use mathlib.Core.List.{List, [], _∷_, _++_, map, append-assoc, append-nil}
-use Prim.Native.Nat.{ℕ, zero, suc, _+_, _-_, _*_, _%_, _^_, _≤_, _<_}
+use Prim.Native.Nat.{ℕ, suc, _+_, _-_, _*_, _%_, _≤_, _<_}
 use native.Mathlib.Nat.{suc-mul, zero-mul}
 use native.Mathlib.Numerals.{add-one}
 use native.Mathlib.Omega.{arith}
-use lib.Dec.{leb, lit<}
-use lib.ListN.{length, getD, drop, replicate, length-append, length-drop, length-map, List·getD-append}
+use lib.ListN.{length, getD, drop, replicate, length-append, length-drop, length-map}
 use lib.Seq.{drop-drop, drop-append-seam, getD-drop}
 use borrow.Author.Tests.{le-leb}
 use Rattle.bits.specs.Bits.{digits, bits, leading, bytes, over, laid}
@@ -15,7 +14,6 @@ use Rattle.bits.proofs.Logic.{Each}
 use Rattle.bits.proofs.Bits.{length-digits, length-bits, bits-bytes}
 use Rattle.bits.proofs.Fields.{laid-over}
 use Rattle.bits.proofs.Leading.{leading-front, leading-digits}
-use Rattle.model.specs.Playing.{Action, idle, fetch, replace, Schedule}
 use Rattle.model.specs.Rules.{Choice, intoEmpty, overMinBlock, minBlockSooner, waits, noneMissing, action}
 use Rattle.model.specs.Sheet.{actionBits, roundBits, roundsBits, sheetBits}
 use Rattle.model.specs.Page.{fetchedBlock, discardedBlock, lineOf, roundLines, linesFrom, legend, ended, pageOf, reason, reasonsOf}
@@ -23,7 +21,7 @@ use Rattle.model.proofs.Bytes.{sheet-bits}
 use Rattle.model.proofs.Page.{SmallChoice, SmallRounds}
 use Rattle.printing.specs.declared.Shown.{Shown}
 use Rattle.printing.specs.declared.Place.{Place}
-use Rattle.printing.specs.Printing.{lineBytes, valueOf, shownAt, placeAfter, lineAt, linesRead, pageRead, firstPlace}
+use Rattle.printing.specs.Printing.{lineBytes, valueOf, shownAt, placeAfter, lineAt, linesRead, pageRead}
 use Rattle.printing.proofs.Laws.{shown-idle, shown-fetch, shown-replace, place-round, place-disk}
 use Rattle.printing.proofs.Columns.{blockNumber, line-columns}
 

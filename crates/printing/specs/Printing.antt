@@ -2,19 +2,15 @@
 -- Assumes nothing.
 use mathlib.Core.Bool.{cond, _&&_}
 use mathlib.Core.List.{List, [], _∷_, _++_}
-use Prim.Native.Nat.{ℕ, zero, suc, _+_, _/_, _%_, _<_}
+use Prim.Native.Nat.{ℕ, zero, suc, _+_, _/_, _%_}
 use lib.Dec.{ltb, eqb}
-use lib.ListN.{length, getD}
+use lib.ListN.{getD}
 use Rattle.bits.specs.Fields.{fieldAt}
 use Rattle.bits.specs.declared.Field.{Field}
 use Rattle.bits.specs.declared.Field.the-variants.{Value, Ended}
 use Rattle.model.specs.Page.{legend, ended}
 use Rattle.printing.specs.declared.Shown.{Shown}
 use Rattle.printing.specs.declared.Place.{Place}
-
--- Every number of a list is below a bound.
-abbrev pub Below : ℕ → List ℕ → Type 0
-Below n l = (i : ℕ) → i < length l → getD l i 0 < n
 
 -- A column of a number that is right aligned: its digit of that unit, or a space before its digits;
 unfoldable pub columnOf : ℕ → ℕ → ℕ

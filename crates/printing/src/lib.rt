@@ -3,10 +3,10 @@ use bits::Field;
 ghost use mathlib.Core.Path.{_≡_};
 ghost use Prim.Native.Nat.{_+_, _*_, _^_, _≤_, _<_};
 ghost use lib.ListN.{length};
-ghost use Rattle.bits.specs.Bits.{laid};
+ghost use Rattle.bits.specs.Bits.{laid, Below};
 ghost use Rattle.bits.specs.Fields.{fieldAt, laidAt};
 ghost use Rattle.model.specs.Page.{legend, ended};
-ghost use Rattle.printing.specs.Printing.{columnOf, blockColumn, lineBytes, valueOf, shownAt, placeAfter, firstPlace, linesRead, pageRead, Below};
+ghost use Rattle.printing.specs.Printing.{columnOf, blockColumn, lineBytes, valueOf, shownAt, placeAfter, firstPlace, linesRead, pageRead};
 
 // "Five legend lines of 16 columns", one for each rule, in the order of the reasons' numbers.
 pub const LEGEND: [[u8; 16]; 5] = [

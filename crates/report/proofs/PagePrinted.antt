@@ -1,10 +1,10 @@
 -- What is left in the buffer of a page is what is printed for its ticket. Assumes nothing.
 use mathlib.Core.Path.{_≡_, refl, sym, ap, _∙_}
 use mathlib.Core.List.{List}
-use Prim.Native.Nat.{ℕ, _+_, _≤_, _<_}
+use Prim.Native.Nat.{ℕ, _≤_, _<_}
 use native.Mathlib.Omega.{arith}
 use lib.ListN.{length}
-use Rattle.bits.specs.Bits.{over, laid}
+use Rattle.bits.specs.Bits.{laid}
 use Rattle.bits.specs.Fields.{laidAt}
 use Rattle.bits.specs.Reading.{Answer, given, refused}
 use Rattle.bits.proofs.Fields.{laid-over, length-laid}
@@ -13,11 +13,11 @@ use Rattle.model.specs.Plans.{each}
 use Rattle.model.specs.Calls.{returned, written, PlannedPage, pageAnswer, planGiven, pageLength, pageAfter, numberOf}
 use Rattle.model.proofs.Numbers.{page-within}
 use Rattle.model.proofs.Promises.{page-exactly}
-use Rattle.planner.specs.Planner.{plannedAs}
-use Rattle.planner.specs.declared.Planned.{Planned}
-use Rattle.planner.specs.declared.PlannedPage.{PlannedPage as PageValue}
+use Rattle.returning.specs.Returning.{plannedAs}
+use Rattle.returning.specs.declared.Planned.{Planned}
+use Rattle.returning.specs.declared.PlannedPage.{PlannedPage as PageValue}
 use Rattle.planner.proofs.Laws.{refused-by}
-use Rattle.report.specs.Report.{lineEnd, refusalLine, pageLines, pagePrinted}
+use Rattle.report.specs.Report.{refusalLine, pageLines, pagePrinted}
 use Rattle.report.specs.Text.{Put}
 use Rattle.report.proofs.Laws.{end-seven}
 

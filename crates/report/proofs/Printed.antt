@@ -19,8 +19,8 @@ use Rattle.model.proofs.Numbers.{plan-within}
 use Rattle.model.proofs.Bytes
 use Rattle.ticket.specs.Meaning.{noTicket, answerOf, ticketRead}
 use Rattle.ticket.specs.declared.Ticket.{Ticket}
-use Rattle.planner.specs.Planner.{markAs, plannedAs}
-use Rattle.planner.specs.declared.Planned.{Planned}
+use Rattle.returning.specs.Returning.{markAs, plannedAs}
+use Rattle.returning.specs.declared.Planned.{Planned}
 use Rattle.report.specs.Report.{lineEnd, markWord, diskLines, linesOf, disksOf, printed}
 use Rattle.report.specs.Text.{Put, planText, textBy, textOf, Small}
 

@@ -5,10 +5,10 @@ use Prim.Native.Nat.{ℕ, _+_, _≤_}
 use lib.ListN.{length, getD}
 use Rattle.bits.specs.Fields.{laidAt}
 use Rattle.model.specs.Calls.{isShort, isSparing}
-use Rattle.planner.specs.declared.Counts.{Counts}
-use Rattle.planner.specs.declared.Planned.{Planned}
-use Rattle.planner.specs.declared.Mark.{Mark}
-use Rattle.planner.specs.declared.Mark.the-variants.{Unmarked, Short, Sparing}
+use Rattle.returning.specs.declared.Counts.{Counts}
+use Rattle.returning.specs.declared.Planned.{Planned}
+use Rattle.returning.specs.declared.Mark.{Mark}
+use Rattle.returning.specs.declared.Mark.the-variants.{Unmarked, Short, Sparing}
 use Rattle.report.specs.Report.{lineEnd, diskLines, refusalLine, markWord}
 
 -- A text written into a slice from the byte `at` on, as far as the slice reaches: the slice before and after it, and the place after the text.

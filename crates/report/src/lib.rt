@@ -1,8 +1,8 @@
 // The texts that the programs print for a ticket. Document 01: "mark and rounds of the chosen plan, then each disk with its fetches in that plan. A
 // refusal prints `refused`, a space and the number. Every line ends in a line feed." Document 02, L2: the page.
-use planner::Counts;
-use planner::Mark;
-use planner::Planned;
+use returning::Counts;
+use returning::Mark;
+use returning::Planned;
 ghost use mathlib.Core.Path.{_≡_};
 ghost use mathlib.Core.List.{[], _∷_};
 ghost use Prim.Native.Nat.{_+_, _*_, _≤_, _<_};

@@ -10,19 +10,17 @@ use borrow.Author.Tests.{eq-eqb, ne-eqb}
 use lib.ListN.{length, take, getD, set, length-append}
 use lib.Pow.{high, shr-shr}
 use lib.Seq.{set-getD}
-use Rattle.bits.specs.Bits.{digits, bits, bytes}
+use Rattle.bits.specs.Bits.{digits, bits, bytes, Below}
 use Rattle.bits.specs.Fields.{putBit, putBits, clearFrom}
 use Rattle.bits.proofs.Bits.{Bits, digits-low, length-bytes, bits-are, append-bits, take-bits, length-bits}
-use Rattle.bits.proofs.Fields.{put-packed, clear-packed}
+use Rattle.bits.proofs.Fields.{put-packed, clear-packed, below-any}
 use Rattle.model.specs.Playing.{Action, idle, fetch, replace}
 use Rattle.model.specs.Plans.{each}
 use Rattle.model.specs.Sheet.{actionBits, roundBits}
 use Rattle.model.proofs.Bytes.{action-bits, round-bits}
 use Rattle.model.proofs.Longest.{length-action, length-round}
-use Rattle.model.proofs.Plans.{length-each}
-use Rattle.lookup.specs.Lookup.{Below}
+use Rattle.model.proofs.Plans.{length-each, each-more}
 use Rattle.lookup.specs.Desk.{row, cell}
-use Rattle.lookup.proofs.Laws.{below-any}
 use Rattle.writing.specs.Writing.{actionOf, actionIn, actionsIn}
 
 -- two fields side by side are one
@@ -136,13 +134,6 @@ pub action-bits-are : (a : Action) → Bits (actionBits a)
 action-bits-are a = rw append-nil at (action-bits a [] none-bits)
 
 -- one more disk's action
-
-pub each-more : {A : Type 0} (f : ℕ → A) (i k : ℕ) → each f i (suc k) ≡ each f i k ++ (f (i + k) ∷ [])
-unfolding each
-each-more f i zero = ap (λ (n : ℕ). f n ∷ []) (let e : i ≡ i + 0 = omega arith in e)
-each-more f i (suc k) =
-    let e : suc i + k ≡ i + suc k = omega arith in
-    ap (λ (l : List _). f i ∷ l) (each-more f (suc i) k ∙ ap (λ (n : ℕ). each f (suc i) k ++ (f n ∷ [])) e)
 
 pub round-append : (l m : List Action) → roundBits (l ++ m) ≡ roundBits l ++ roundBits m
 unfolding roundBits

@@ -1,6 +1,6 @@
 -- The reasons of a round, laid one after the other. Assumes nothing.
 use mathlib.Core.Path.{_≡_, sym, ap, _∙_}
-use mathlib.Core.List.{List, [], _∷_, _++_}
+use mathlib.Core.List.{List, [], _∷_}
 use Prim.Native.Nat.{ℕ, _+_, _%_, _≤_}
 use native.Mathlib.Numerals.{add-one}
 use native.Mathlib.Omega.{arith}
@@ -10,9 +10,8 @@ use Rattle.bits.specs.Fields.{laidAt}
 use Rattle.bits.proofs.Fields.{laidAt-nil, laid-then, laid-byte}
 use Rattle.lookup.specs.Desk.{cell}
 use Rattle.model.specs.Plans.{each}
-use Rattle.model.proofs.Plans.{length-each}
+use Rattle.model.proofs.Plans.{length-each, each-more}
 use Rattle.writing.specs.Writing.{reasonsIn}
-use Rattle.writing.proofs.Packing.{each-more}
 
 pub reasons-length : (acts : List (List ℕ)) (d : ℕ) → length (reasonsIn acts d) ≡ d
 unfolding reasonsIn

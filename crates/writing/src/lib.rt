@@ -3,8 +3,8 @@
 ghost use mathlib.Core.Path.{_≡_};
 ghost use Prim.Native.Nat.{_+_, _*_, _/_, _≤_, _<_};
 ghost use lib.ListN.{length, getD};
+ghost use Rattle.bits.specs.Bits.{Below};
 ghost use Rattle.bits.specs.Fields.{putBits, clearFrom, laidAt};
-ghost use Rattle.lookup.specs.Lookup.{Below};
 ghost use Rattle.lookup.specs.Desk.{row};
 ghost use Rattle.model.specs.Sheet.{actionBits, roundBits};
 ghost use Rattle.writing.specs.Heading.{headed};

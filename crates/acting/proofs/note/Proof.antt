@@ -6,8 +6,8 @@ use native.Mathlib.Omega.{arith}
 use lib.Dec.{lit<}
 use borrow.Author.Needs.{needs}
 use denote.Ref.{now}
+use Rattle.bits.proofs.Fields.{below-any}
 use Rattle.lookup.specs.Desk.{helds}
-use Rattle.lookup.proofs.Laws.{below-any}
 use Rattle.choosing.specs.declared.Choice.{Choice}
 use Rattle.acting.specs.Acting.{Small, fetchNoted, discardNoted, reasonNoted, column, noted}
 use Rattle.acting.proofs.AfterChoice.{noted-is}

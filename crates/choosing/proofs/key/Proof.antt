@@ -4,8 +4,8 @@ use native.Mathlib.Omega.{arith}
 use lib.Dec.{lit<}
 use borrow.Author.Needs.{needs}
 use denote.Ref.{now}
+use Rattle.bits.proofs.Fields.{below-any}
 use Rattle.lookup.specs.Desk.{nexts, helds}
-use Rattle.lookup.proofs.Laws.{below-any}
 use Rattle.choosing.proofs.key.Statement.{statement}
 use Rattle.choosing.proofs.key.Tie as tie
 

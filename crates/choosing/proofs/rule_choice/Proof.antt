@@ -9,8 +9,8 @@ use lib.ListN.{length, getD}
 use borrow.Author.Needs.{needs}
 use borrow.Author.Tests.{le-leb, lt-leb, lt-ltb, le-ltb}
 use denote.Ref.{now}
+use Rattle.bits.proofs.Fields.{below-any}
 use Rattle.lookup.specs.Desk.{nexts, laters, helds, looks}
-use Rattle.lookup.proofs.Laws.{below-any}
 use Rattle.choosing.specs.declared.Choice.the-variants.{IntoEmpty, OverMinBlock, MinBlockSooner, Waits, NoneMissing}
 use Rattle.choosing.specs.declared.Rule.{Rule}
 use Rattle.choosing.specs.Choosing.{lastPlace, someBeyond, alsoIdle, choiceFull, choiceFrom}

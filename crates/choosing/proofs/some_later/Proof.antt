@@ -7,8 +7,8 @@ use lib.Dec.{lit<}
 use lib.ListN.{getD}
 use borrow.Author.Needs.{needs}
 use denote.Ref.{now}
+use Rattle.bits.proofs.Fields.{below-any}
 use Rattle.lookup.specs.Desk.{laters, helds}
-use Rattle.lookup.proofs.Laws.{below-any}
 use Rattle.choosing.specs.Choosing.{someBeyond}
 use Rattle.choosing.proofs.Scanning.{beyond-start, beyond-here, beyond-kept}
 use Rattle.choosing.proofs.some_later.Statement.{statement}

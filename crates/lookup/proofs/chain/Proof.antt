@@ -4,8 +4,9 @@ use Prim.Native.Nat.{_-_, _<_}
 use native.Mathlib.Omega.{arith}
 use lib.ListN.{length, getD}
 use denote.Ref.{now}
+use Rattle.bits.proofs.Fields.{below-any}
 use Rattle.lookup.specs.Lookup.{refDisks}
-use Rattle.lookup.proofs.Laws.{below-any, refDisks-length, refDisks-at}
+use Rattle.lookup.proofs.Laws.{refDisks-length, refDisks-at}
 use Rattle.lookup.proofs.Backward.{Done, done-start, done-back, done-end}
 use Rattle.lookup.proofs.chain.Statement.{statement}
 use Rattle.lookup.proofs.chain.Tie as tie

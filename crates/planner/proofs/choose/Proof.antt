@@ -12,8 +12,8 @@ use Rattle.planner.proofs.choose.Tie as tie
 use Rattle.planner.proofs.choose.Reads as reads
 use Rattle.planner.proofs.choose.Lts as lts
 use Rattle.checking.proofs.check.Reads as check-reads
-use Rattle.planner.proofs.no_choice.Reads as no-choice-reads
-use Rattle.planner.proofs.preference.Reads as preference-reads
+use Rattle.returning.proofs.no_choice.Reads as no-choice-reads
+use Rattle.returning.proofs.preference.Reads as preference-reads
 use Rattle.ticket.proofs.read.Reads as read-reads
 
 read-requires : tie.Need-read-requires

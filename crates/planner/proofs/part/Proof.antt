@@ -1,13 +1,13 @@
 -- `planner::part` meets its contract. Assumes nothing.
 use denote.Ref.{now}
-use Rattle.planner.proofs.TwoSheets.{part-chosen}
+use Rattle.returning.proofs.TwoSheets.{part-chosen}
 use borrow.Author.Needs.{needs}
 use Rattle.planner.proofs.part.Statement.{statement}
 use Rattle.planner.proofs.part.Tie as tie
 use Rattle.planner.proofs.part.Reads as reads
 use Rattle.planner.proofs.part.Lts as lts
-use Rattle.planner.proofs.handed_slice.Reads as handed-slice-reads
-use Rattle.planner.proofs.which_for.Reads as which-for-reads
+use Rattle.returning.proofs.handed_slice.Reads as handed-slice-reads
+use Rattle.returning.proofs.which_for.Reads as which-for-reads
 
 which-for-requires : tie.Need-which-for-requires
 which-for-requires c κs = search needs

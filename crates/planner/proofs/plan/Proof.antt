@@ -3,14 +3,15 @@ use mathlib.Core.Path.{refl}
 use denote.Ref.{now}
 use Rattle.model.specs.Calls.{plannedFor}
 use Rattle.planner.proofs.Laws.{ticket-refused, ticket-given, ticket-fits}
-use Rattle.planner.proofs.Rooms.{gives-refused, gives-ticket}
+use Rattle.handing.proofs.Rooms.{gives-refused}
+use Rattle.planner.proofs.Promised.{gives-ticket}
 use borrow.Author.Needs.{needs}
 use Rattle.planner.proofs.plan.Statement.{statement}
 use Rattle.planner.proofs.plan.Tie as tie
 use Rattle.planner.proofs.plan.Reads as reads
 use Rattle.planner.proofs.plan.Lts as lts
-use Rattle.planner.proofs.plan_job.Reads as plan-job-reads
-use Rattle.planner.proofs.refusal.Reads as refusal-reads
+use Rattle.handing.proofs.plan_job.Reads as plan-job-reads
+use Rattle.returning.proofs.refusal.Reads as refusal-reads
 use Rattle.ticket.proofs.read.Reads as read-reads
 
 read-requires : tie.Need-read-requires

@@ -3,7 +3,8 @@ use mathlib.Core.Path.{refl}
 use denote.Ref.{now}
 use Rattle.model.specs.Calls.{pageFor}
 use Rattle.planner.proofs.Laws.{ticket-refused, ticket-given, ticket-fits}
-use Rattle.planner.proofs.Pages.{gives-page-refused, gives-page-ticket}
+use Rattle.handing.proofs.Pages.{gives-page-refused}
+use Rattle.planner.proofs.Promised.{gives-page-ticket}
 use borrow.Author.Needs.{needs}
 use Rattle.planner.proofs.plan_with_page.Statement.{statement}
 use Rattle.planner.proofs.plan_with_page.Tie as tie

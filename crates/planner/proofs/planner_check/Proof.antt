@@ -8,7 +8,7 @@ use Rattle.planner.proofs.planner_check.Tie as tie
 use Rattle.planner.proofs.planner_check.Reads as reads
 use Rattle.planner.proofs.planner_check.Lts as lts
 use Rattle.planner.proofs.check.Reads as check-reads
-use Rattle.planner.proofs.lay_counts.Reads as lay-counts-reads
+use Rattle.returning.proofs.lay_counts.Reads as lay-counts-reads
 
 check-requires : tie.Need-check-requires
 check-requires c κs = search needs

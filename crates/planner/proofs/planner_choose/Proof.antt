@@ -8,7 +8,7 @@ use Rattle.planner.proofs.planner_choose.Reads as reads
 use Rattle.planner.proofs.planner_choose.Lts as lts
 use Rattle.bits.proofs.lay16.Reads as lay16-reads
 use Rattle.planner.proofs.choose.Reads as choose-reads
-use Rattle.planner.proofs.of_which.Reads as of-which-reads
+use Rattle.returning.proofs.of_which.Reads as of-which-reads
 
 choose-requires : tie.Need-choose-requires
 choose-requires c κs = search needs

@@ -7,8 +7,8 @@ use Rattle.planner.proofs.planner_plan.Tie as tie
 use Rattle.planner.proofs.planner_plan.Reads as reads
 use Rattle.planner.proofs.planner_plan.Lts as lts
 use Rattle.bits.proofs.lay16.Reads as lay16-reads
-use Rattle.planner.proofs.lay_counts.Reads as lay-counts-reads
-use Rattle.planner.proofs.mark_number.Reads as mark-number-reads
+use Rattle.returning.proofs.lay_counts.Reads as lay-counts-reads
+use Rattle.returning.proofs.mark_number.Reads as mark-number-reads
 use Rattle.planner.proofs.plan.Reads as plan-reads
 
 plan-requires : tie.Need-plan-requires

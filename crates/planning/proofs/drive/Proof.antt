@@ -10,9 +10,9 @@ use lib.Dec.{lit<}
 use lib.ListN.{length, getD, length-replicate}
 use borrow.Author.Tests.{not-true, not-false}
 use denote.Ref.{now}
-use Rattle.lookup.specs.Lookup.{Below}
+use Rattle.bits.specs.Bits.{Below}
+use Rattle.bits.proofs.Fields.{below-any}
 use Rattle.lookup.specs.Desk.{helds, looks, ofDisk}
-use Rattle.lookup.proofs.Laws.{below-any}
 use Rattle.playing.specs.Playing.{consumeOne}
 use Rattle.playing.specs.declared.Buffers.{Buffers}
 use Rattle.choosing.specs.declared.Choice.{Choice}

@@ -1,6 +1,5 @@
 -- `action_at` meets its contract, for each kind of action. Assumes nothing.
-use mathlib.Core.Path.{_≡_, sym, _∙_}
-use native.Mathlib.Omega.{arith}
+use mathlib.Core.Path.{sym, _∙_}
 use borrow.Author.Needs.{needs}
 use denote.Ref.{now}
 use Rattle.printing.proofs.Laws.{shown-idle, shown-fetch, shown-replace}

@@ -4,7 +4,6 @@ use mathlib.Core.List.{List}
 use Prim.Native.Nat.{ℕ, _+_, _-_, _*_, _≤_, _<_}
 use native.Mathlib.Omega.{arith}
 use lib.ListN.{length, getD}
-use borrow.Author.Needs.{needs}
 use denote.Ref.{now}
 use Rattle.printing.specs.declared.Shown.{Shown}
 use Rattle.printing.specs.Printing.{lineBytes, placeAfter}

@@ -8,7 +8,7 @@ use lib.Dec.{lit<}
 use lib.ListN.{getD}
 use borrow.Author.Needs.{needs}
 use denote.Ref.{now}
-use Rattle.lookup.proofs.Laws.{below-any}
+use Rattle.bits.proofs.Fields.{below-any}
 use Rattle.writing.specs.Tallying.{tallied}
 use Rattle.writing.proofs.Tallied.{tally-start, tally-idle, tally-fetch, tallied-kept}
 use Rattle.writing.proofs.tally.Statement.{statement}

@@ -1,0 +1,3 @@
+pub mod Values
+pub mod TwoSheets
+pub mod Laying
