@@ -41,7 +41,7 @@ gives-refused a short sparing r n e q = (
   ap (λ (x : Answer PlanGiven). sparingAfter x sparing) (sym e),
 )
 
-pub gives-given : (a : Answer PlanGiven) (short sparing : List ℕ) (r : Planned) (short′ sparing′ : List ℕ) (p : PlanGiven) → a ≡ given p
+gives-given : (a : Answer PlanGiven) (short sparing : List ℕ) (r : Planned) (short′ sparing′ : List ℕ) (p : PlanGiven) → a ≡ given p
     → r ≡ plannedAs (returned (given p)) → short′ ≡ over (p .shortSheet) short → sparing′ ≡ over (p .sparingSheet) sparing → Gives a short sparing r short′ sparing′
 unfolding written
 gives-given a short sparing r short′ sparing′ p e q f g = (
@@ -52,7 +52,7 @@ gives-given a short sparing r short′ sparing′ p e q f g = (
 
 -- Rooms that are too small for a plan's sheets, of m and n bytes, and rooms that are not.
 module _ (m a n b number : ℕ) (p : PlanGiven) (long₁ : m ≡ length (p .shortSheet)) (long₂ : n ≡ length (p .sparingSheet)) (e : number ≡ roomNumber m a n b) where
-  pub no-room : (number ≡ 0 → ⊥) → withRooms a b p ≡ refused number
+  no-room : (number ≡ 0 → ⊥) → withRooms a b p ≡ refused number
   unfolding roomNumber withRooms
   no-room f =
       rw (← long₁, ← long₂)
@@ -60,7 +60,7 @@ module _ (m a n b number : ℕ) (p : PlanGiven) (long₁ : m ≡ length (p .shor
       (λ x. rw (x, e) (rw x refl))
       (λ x. by-test (ltb b n) (λ y. rw (x, y, e) (rw (x, y) refl)) (λ y. absurd (f (e ∙ rw (x, y) refl)))))
 
-  pub both-fit : number ≡ 0 → (withRooms a b p ≡ given p) × (m ≤ a) × (n ≤ b)
+  both-fit : number ≡ 0 → (withRooms a b p ≡ given p) × (m ≤ a) × (n ≤ b)
   unfolding roomNumber withRooms
   both-fit z =
       by-test (ltb a m)

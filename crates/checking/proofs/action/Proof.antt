@@ -17,15 +17,6 @@ fetches c =
     let bit = c .before .before .before in
     rw (← bit .before .before .field .ensures, bit .fetches .given .1, ne-eqb _ _ (c .before .if1 .left), ← c .block-after .ensures)
 
-field-requires : tie.Need-field-requires
-field-requires c κs = search needs
-
-enum-known-fetches : tie.Need-enum-known-fetches
-enum-known-fetches c = search needs
-
-enum-told : tie.Need-enum-told
-enum-told c = search needs
-
 returns : tie.Need-returns
 unfolding actionAt
 returns c = rw (← c .before .before .field .ensures, c .enum-told .given .1)
@@ -35,27 +26,6 @@ unfolding actionAt
 returns-2 c =
     let bit = c .before .before in
     rw (← bit .before .before .field .ensures, bit .fetches .given .1, eq-eqb _ _ (c .if1 .taken))
-
-block-after-requires : tie.Need-block-after-requires
-block-after-requires c κs = search needs
-
-enum-told-2 : tie.Need-enum-told-2
-enum-told-2 c = search needs
-
-enum-told-3 : tie.Need-enum-told-3
-enum-told-3 c = search needs
-
-enum-told-4 : tie.Need-enum-told-4
-enum-told-4 c = search needs
-
-enum-known-x : tie.Need-enum-known-x
-enum-known-x c = search needs
-
-add-discard : tie.Need-add-discard
-add-discard c = search needs
-
-discard-requires : tie.Need-discard-requires
-discard-requires c κs = search needs
 
 returns-3 : tie.Need-returns-3
 returns-3 c = rw (fetches (c .before .before), c .enum-told2 .given .1)
@@ -73,18 +43,18 @@ pub action-spec : {M : Type 1} → statement M
 action-spec =
     tie.close
     (tie.spec
-    field-requires
-    enum-known-fetches
-    enum-told
+    (λ c κs. search needs)
+    (λ c. search needs)
+    (λ c. search needs)
     returns
     returns-2
-    block-after-requires
-    enum-told-2
-    enum-told-3
-    enum-told-4
-    enum-known-x
-    add-discard
-    discard-requires
+    (λ c κs. search needs)
+    (λ c. search needs)
+    (λ c. search needs)
+    (λ c. search needs)
+    (λ c. search needs)
+    (λ c. search needs)
+    (λ c κs. search needs)
     returns-3
     returns-4
     returns-5

@@ -15,15 +15,6 @@ discards c =
     let bit = c .before .before .before in
     rw (← bit .before .before .field .ensures, bit .discards .given .1, ne-eqb _ _ (c .before .if1 .left), ← c .block-after .ensures)
 
-field-requires : tie.Need-field-requires
-field-requires c κs = search needs
-
-enum-known-discards : tie.Need-enum-known-discards
-enum-known-discards c = search needs
-
-enum-told : tie.Need-enum-told
-enum-told c = search needs
-
 returns : tie.Need-returns
 unfolding discardAt
 returns c = rw (← c .before .before .field .ensures, c .enum-told .given .1)
@@ -39,21 +30,6 @@ unfolding discardAt
 returns-3 c =
     let bit = c .before .before .before in
     rw (← bit .before .before .field .ensures, bit .discards .given .1, eq-eqb _ _ (c .before .if1 .taken), c .if2 .left)
-
-block-after-requires : tie.Need-block-after-requires
-block-after-requires c κs = search needs
-
-enum-told-2 : tie.Need-enum-told-2
-enum-told-2 c = search needs
-
-enum-told-3 : tie.Need-enum-told-3
-enum-told-3 c = search needs
-
-enum-told-4 : tie.Need-enum-told-4
-enum-told-4 c = search needs
-
-enum-known-z : tie.Need-enum-known-z
-enum-known-z c = search needs
 
 returns-4 : tie.Need-returns-4
 returns-4 c = rw (discards (c .before .before), c .enum-told2 .given .1)
@@ -71,17 +47,17 @@ pub discard-spec : {M : Type 1} → statement M
 discard-spec =
     tie.close
     (tie.spec
-    field-requires
-    enum-known-discards
-    enum-told
+    (λ c κs. search needs)
+    (λ c. search needs)
+    (λ c. search needs)
     returns
     returns-2
     returns-3
-    block-after-requires
-    enum-told-2
-    enum-told-3
-    enum-told-4
-    enum-known-z
+    (λ c κs. search needs)
+    (λ c. search needs)
+    (λ c. search needs)
+    (λ c. search needs)
+    (λ c. search needs)
     returns-4
     returns-5
     returns-6

@@ -49,27 +49,6 @@ few c =
     let most = lines-few (jobOf (e .args .job)) (e .pre .sound) (made c .run .result) (made c .run .ensures .0) in
     omega (arith, same, most)
 
-slice-aggregate-run : tie.Need-slice-aggregate-run
-slice-aggregate-run c = search needs
-
-slice-aggregate-run-2 : tie.Need-slice-aggregate-run-2
-slice-aggregate-run-2 c = search needs
-
-slice-aggregate-run-3 : tie.Need-slice-aggregate-run-3
-slice-aggregate-run-3 c = search needs
-
-slice-aggregate-run-4 : tie.Need-slice-aggregate-run-4
-slice-aggregate-run-4 c = search needs
-
-run-requires : tie.Need-run-requires
-run-requires c κs = search needs
-
-which-for-requires : tie.Need-which-for-requires
-which-for-requires c κs = search needs
-
-of-which-requires : tie.Need-of-which-requires
-of-which-requires c κs = search needs
-
 mul-lines : tie.Need-mul-lines
 mul-lines c = let l = few c in record { fits = omega (arith, l) }
 
@@ -88,15 +67,6 @@ sheet-length-requires-2 : tie.Need-sheet-length-requires-2
 sheet-length-requires-2 c κs =
     let sound = entry (made (c .before)) .pre .sound in
     bits-few _ sound Sparing _ (sparing-totals _ sound _ (made (c .before) .run .ensures .0))
-
-room-number-requires : tie.Need-room-number-requires
-room-number-requires c κs = search needs
-
-page-number-requires : tie.Need-page-number-requires
-page-number-requires c κs = search needs
-
-page-refusal-requires : tie.Need-page-refusal-requires
-page-refusal-requires c κs = search needs
 
 -- what planning gives for two rooms,
 TwoRefused : tie.After-page-number → Type 0
@@ -157,12 +127,6 @@ returns c =
     (page-refused _ (e .pre .sound) _ (run .run .ensures .0) _ _ _ _ _ (number-is n) (two-refused n) (λ x. two-given n x .0) (λ z. omega (arith, taken, z)))
     (c .page-refusal .ensures)
 
-slice-aggregate-hand-out : tie.Need-slice-aggregate-hand-out
-slice-aggregate-hand-out c = search needs
-
-slice-aggregate-hand-out-2 : tie.Need-slice-aggregate-hand-out-2
-slice-aggregate-hand-out-2 c = search needs
-
 hand-out-requires : tie.Need-hand-out-requires
 unfolding ThreeGiven TwoGiven
 hand-out-requires c κs =
@@ -186,17 +150,11 @@ slice-aggregate-handed-slice c = let long = sheets-long (c .before .before .befo
 slice-aggregate-handed-slice-2 : tie.Need-slice-aggregate-handed-slice-2
 slice-aggregate-handed-slice-2 c = let long = sheets-long (c .before .before .before .before .before .before .before .before .before .before .before .before .before .before .before .before .before .before .before .before .before .before .before .before .before) in search (needs, long)
 
-handed-slice-requires : tie.Need-handed-slice-requires
-handed-slice-requires c κs = search needs
-
 slice-aggregate-handed-slice-3 : tie.Need-slice-aggregate-handed-slice-3
 slice-aggregate-handed-slice-3 c = let long = why-long (c .before .before .before .before .before .before .before .before .before .before .before .before .before .before .before .before .before .before .before .before .before .before .before .before .before .before .before) in search (needs, long)
 
 slice-aggregate-handed-slice-4 : tie.Need-slice-aggregate-handed-slice-4
 slice-aggregate-handed-slice-4 c = let long = why-long (c .before .before .before .before .before .before .before .before .before .before .before .before .before .before .before .before .before .before .before .before .before .before .before .before .before .before .before .before) in search (needs, long)
-
-handed-slice-requires-2 : tie.Need-handed-slice-requires-2
-handed-slice-requires-2 c κs = search needs
 
 put-page-requires : tie.Need-put-page-requires
 unfolding ThreeGiven
@@ -211,15 +169,6 @@ put-page-requires c κs =
     let asks = page-asks _ (e .pre .sound) _ (run .run .ensures .0) (k .before .before .which-for .ensures) (run .run .ensures .1) (run .run .ensures .2)
     (c .before .before .before .before .handed-slice .ensures .0) (run .run .ensures .3) (run .run .ensures .4) (c .before .handed-slice2 .ensures .0) (now (e .args .page)) room in
     (few k, omega (arith, room, same), (let many = asks .2 in omega (arith, many, same)), asks .3)
-
-same-length : tie.Need-same-length
-same-length c = search needs
-
-same-length-2 : tie.Need-same-length-2
-same-length-2 c = search needs
-
-same-length-3 : tie.Need-same-length-3
-same-length-3 c = search needs
 
 returns-2 : tie.Need-returns-2
 unfolding ThreeGiven TwoGiven
@@ -245,33 +194,33 @@ pub page-job-spec : {M : Type 1} → statement M
 page-job-spec =
     tie.close
     (tie.spec
-    slice-aggregate-run
-    slice-aggregate-run-2
-    slice-aggregate-run-3
-    slice-aggregate-run-4
-    run-requires
-    which-for-requires
-    of-which-requires
+    (λ c. search needs)
+    (λ c. search needs)
+    (λ c. search needs)
+    (λ c. search needs)
+    (λ c κs. search needs)
+    (λ c κs. search needs)
+    (λ c κs. search needs)
     mul-lines
     mul-length
     add-length
     sheet-length-requires
     sheet-length-requires-2
-    room-number-requires
-    page-number-requires
-    page-refusal-requires
+    (λ c κs. search needs)
+    (λ c κs. search needs)
+    (λ c κs. search needs)
     returns
-    slice-aggregate-hand-out
-    slice-aggregate-hand-out-2
+    (λ c. search needs)
+    (λ c. search needs)
     hand-out-requires
     slice-aggregate-handed-slice
     slice-aggregate-handed-slice-2
-    handed-slice-requires
+    (λ c κs. search needs)
     slice-aggregate-handed-slice-3
     slice-aggregate-handed-slice-4
-    handed-slice-requires-2
+    (λ c κs. search needs)
     put-page-requires
-    same-length
-    same-length-2
-    same-length-3
+    (λ c. search needs)
+    (λ c. search needs)
+    (λ c. search needs)
     returns-2)

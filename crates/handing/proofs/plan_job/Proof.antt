@@ -14,21 +14,6 @@ made c = c .before .before .before .before .before .before .before
 abbrev entry : tie.After-run → tie.Start
 entry c = c .before .before .before .before .before .before .before
 
-slice-aggregate-run : tie.Need-slice-aggregate-run
-slice-aggregate-run c = search needs
-
-slice-aggregate-run-2 : tie.Need-slice-aggregate-run-2
-slice-aggregate-run-2 c = search needs
-
-slice-aggregate-run-3 : tie.Need-slice-aggregate-run-3
-slice-aggregate-run-3 c = search needs
-
-slice-aggregate-run-4 : tie.Need-slice-aggregate-run-4
-slice-aggregate-run-4 c = search needs
-
-run-requires : tie.Need-run-requires
-run-requires c κs = search needs
-
 sheet-length-requires : tie.Need-sheet-length-requires
 sheet-length-requires c κs =
     let run = c .before .before .before .before in
@@ -41,12 +26,6 @@ sheet-length-requires-2 c κs =
     let sound = entry run .pre .sound in
     bits-few _ sound Sparing _ (sparing-totals _ sound _ (run .run .ensures .0))
 
-room-number-requires : tie.Need-room-number-requires
-room-number-requires c κs = search needs
-
-refusal-requires : tie.Need-refusal-requires
-refusal-requires c κs = search needs
-
 returns : tie.Need-returns
 returns c =
     let rooms = c .before .before in
@@ -57,12 +36,6 @@ returns c =
     (rooms .before .sheet-length2 .ensures) (rooms .room-number .ensures) (λ z. omega (arith, taken, z)))
     (c .refusal .ensures)
 
-slice-aggregate-hand-out : tie.Need-slice-aggregate-hand-out
-slice-aggregate-hand-out c = search needs
-
-slice-aggregate-hand-out-2 : tie.Need-slice-aggregate-hand-out-2
-slice-aggregate-hand-out-2 c = search needs
-
 hand-out-requires : tie.Need-hand-out-requires
 hand-out-requires c κs =
     let rooms = c .before .before .before .before .before in
@@ -72,12 +45,6 @@ hand-out-requires c κs =
     let fits = job-given _ (e .pre .sound) _ (run .0) _ _ _ _ _ (rooms .before .before .sheet-length .ensures) (rooms .before .sheet-length2 .ensures)
     (rooms .room-number .ensures) (omega (arith, left)) in
     hand-asks _ (e .pre .sound) _ (run .0) (run .1) (run .2) (fits .1) (fits .2)
-
-same-length : tie.Need-same-length
-same-length c = search needs
-
-same-length-2 : tie.Need-same-length-2
-same-length-2 c = search needs
 
 returns-2 : tie.Need-returns-2
 returns-2 c =
@@ -94,19 +61,19 @@ pub plan-job-spec : {M : Type 1} → statement M
 plan-job-spec =
     tie.close
     (tie.spec
-    slice-aggregate-run
-    slice-aggregate-run-2
-    slice-aggregate-run-3
-    slice-aggregate-run-4
-    run-requires
+    (λ c. search needs)
+    (λ c. search needs)
+    (λ c. search needs)
+    (λ c. search needs)
+    (λ c κs. search needs)
     sheet-length-requires
     sheet-length-requires-2
-    room-number-requires
-    refusal-requires
+    (λ c κs. search needs)
+    (λ c κs. search needs)
     returns
-    slice-aggregate-hand-out
-    slice-aggregate-hand-out-2
+    (λ c. search needs)
+    (λ c. search needs)
     hand-out-requires
-    same-length
-    same-length-2
+    (λ c. search needs)
+    (λ c. search needs)
     returns-2)

@@ -17,9 +17,6 @@ Inv-loop refs disk-of first₀ again₀ i₀ first again i = Done (refDisks disk
 abbrev μ-loop : tie.MeasureT-loop
 μ-loop refs disk-of first₀ again₀ i₀ first again i = i
 
-position-requires : tie.Need-position-requires Inv-loop μ-loop
-position-requires c κs = omega arith
-
 loop-holds : tie.Need-loop-holds Inv-loop μ-loop
 loop-holds c =
     let a = c .before .before .before .args in
@@ -47,9 +44,6 @@ known c =
     let s = c .before .before .before .before .before in
     let k = below-any 8 (now (s .args .disk-of)) (omega arith) (s .pre .2) (getD (now (s .args .refs)) (c .before .loop .i - 1) 0) in
     omega (arith, k)
-
-sub-i : tie.Need-sub-i Inv-loop μ-loop
-sub-i c = omega arith
 
 mul-disk : tie.Need-mul-disk Inv-loop μ-loop
 mul-disk c = omega (arith, here c)
@@ -90,9 +84,6 @@ mul-first c = omega (arith, known (c .before .before .before .before))
 element-write-first : tie.Need-element-write-first Inv-loop μ-loop
 element-write-first c = known (c .before .before .before .before)
 
-loop-less : tie.Need-loop-less Inv-loop μ-loop
-loop-less c = omega arith
-
 loop-again : tie.Need-loop-again Inv-loop μ-loop
 loop-again c =
     let turn = c .before .before .before .before in
@@ -117,9 +108,9 @@ chain-spec =
     (tie.spec
     Inv-loop
     μ-loop
-    position-requires
+    (λ c κs. omega arith)
     loop-holds
-    sub-i
+    (λ c. omega arith)
     mul-disk
     shared-slice-read-disk
     cast-disk
@@ -133,6 +124,6 @@ chain-spec =
     position-requires-2
     mul-first
     element-write-first
-    loop-less
+    (λ c. omega arith)
     loop-again
     returns)

@@ -14,9 +14,6 @@ Inv-loop refs first₀ again₀ i₀ first again i = Done refs 512 i first again
 abbrev μ-loop : tie.MeasureT-loop
 μ-loop refs first₀ again₀ i₀ first again i = i
 
-position-requires : tie.Need-position-requires Inv-loop μ-loop
-position-requires c κs = omega arith
-
 loop-holds : tie.Need-loop-holds Inv-loop μ-loop
 loop-holds c =
     let a = c .before .before .before .args in
@@ -25,15 +22,6 @@ loop-holds c =
 -- the reference that is passed names a block
 named : (c : tie.In-loop Inv-loop μ-loop) → getD (now (c .before .before .before .before .before .args .refs)) (c .before .loop .i - 1) 0 < 512
 named c = c .before .before .before .before .before .pre .1 (c .before .loop .i - 1) (omega arith)
-
-sub-i : tie.Need-sub-i Inv-loop μ-loop
-sub-i c = omega arith
-
-mul-block : tie.Need-mul-block Inv-loop μ-loop
-mul-block c = omega arith
-
-shared-slice-read-block : tie.Need-shared-slice-read-block Inv-loop μ-loop
-shared-slice-read-block c = omega arith
 
 cast-block : tie.Need-cast-block Inv-loop μ-loop
 cast-block c = omega (arith, named (c .before))
@@ -44,23 +32,11 @@ mul-again c = omega (arith, named (c .before))
 element-copy-out-again : tie.Need-element-copy-out-again Inv-loop μ-loop
 element-copy-out-again c = named (c .before)
 
-mul-again-2 : tie.Need-mul-again-2 Inv-loop μ-loop
-mul-again-2 c = omega arith
-
-element-write-again : tie.Need-element-write-again Inv-loop μ-loop
-element-write-again c = omega arith
-
-position-requires-2 : tie.Need-position-requires-2 Inv-loop μ-loop
-position-requires-2 c κs = omega arith
-
 mul-first : tie.Need-mul-first Inv-loop μ-loop
 mul-first c = omega (arith, named (c .before .before .before))
 
 element-write-first : tie.Need-element-write-first Inv-loop μ-loop
 element-write-first c = named (c .before .before .before)
-
-loop-less : tie.Need-loop-less Inv-loop μ-loop
-loop-less c = omega arith
 
 loop-again : tie.Need-loop-again Inv-loop μ-loop
 loop-again c =
@@ -83,19 +59,19 @@ index-spec =
     (tie.spec
     Inv-loop
     μ-loop
-    position-requires
+    (λ c κs. omega arith)
     loop-holds
-    sub-i
-    mul-block
-    shared-slice-read-block
+    (λ c. omega arith)
+    (λ c. omega arith)
+    (λ c. omega arith)
     cast-block
     mul-again
     element-copy-out-again
-    mul-again-2
-    element-write-again
-    position-requires-2
+    (λ c. omega arith)
+    (λ c. omega arith)
+    (λ c κs. omega arith)
     mul-first
     element-write-first
-    loop-less
+    (λ c. omega arith)
     loop-again
     returns)
