@@ -58,6 +58,7 @@ enum planner_number {
     PLANNER_SHEET_DISCARDED = 14,
     PLANNER_SHEET_UNFINISHED = 15,
     PLANNER_SHEET_CLOSING = 16,
+    PLANNER_SHEET_SLOT_EMPTY = 20,
     /* the rooms, in planner_plan */
     PLANNER_SHORT_ROOM = 17,
     PLANNER_SPARING_ROOM = 18,
@@ -86,6 +87,7 @@ static inline const char *planner_why(uint32_t number)
     case PLANNER_SHEET_DISCARDED:   return "a disk discards a block that is not in its buffer";
     case PLANNER_SHEET_UNFINISHED:  return "references are left after the last round";
     case PLANNER_SHEET_CLOSING:     return "the sheet's closing bits are not all zero, or a byte follows them";
+    case PLANNER_SHEET_SLOT_EMPTY:  return "a disk discards a block though one of its slots is empty";
     case PLANNER_SHORT_ROOM:        return "the short sheet has more bytes than its buffer";
     case PLANNER_SPARING_ROOM:      return "the sparing sheet has more bytes than its buffer";
     case PLANNER_PAGE_ROOM:         return "the page has more bytes than its buffer";
@@ -117,7 +119,7 @@ uint32_t planner_plan(const uint8_t *ticket, size_t ticket_length,
  *                    0       the sheet's rounds
  *                    1..8    its fetches on disks 0 to 7
  *
- * Returns 0 if the sheet is a valid schedule of the ticket's job, else 1 to 16. A refusal writes nothing. */
+ * Returns 0 if the sheet is a valid schedule of the ticket's job, else 1 to 16 or 20. A refusal writes nothing. */
 uint32_t planner_check(const uint8_t *ticket, size_t ticket_length,
                        const uint8_t *sheet, size_t sheet_length,
                        uint8_t *counts, size_t counts_length);
@@ -131,7 +133,7 @@ uint32_t planner_check(const uint8_t *ticket, size_t ticket_length,
  *                    0       the sheet handed back: 0 the first, 1 the second
  *                    1       the length of that sheet, in bytes: first_length or second_length
  *
- * Returns 0, or 1 to 16: planner_check's number for the first sheet or, if that is 0, for the second. A refusal writes nothing.
+ * Returns 0, or 1 to 16 or 20: planner_check's number for the first sheet or, if that is 0, for the second. A refusal writes nothing.
  *
  * No sheet is copied: the caller has both, and the one handed back is `second` if number 0 above is 1, else `first`. It passes planner_check and
  * takes no more rounds than the other. Between the two sheets of planner_plan, the short one first, it is the second exactly when planner_plan's

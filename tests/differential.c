@@ -18,7 +18,7 @@
 #include <string.h>
 #include <sys/mman.h>
 
-enum { GUARD = 24, COUNTS_MOST = 45, NUMBERS = 19, SLICES = 4, SHEETS = 16 };
+enum { GUARD = 24, COUNTS_MOST = 45, NUMBERS = 21, SLICES = 4, SHEETS = 16 };
 enum { ARENA = 1 << 16, EDGE = 1 << 12 };   /* bytes for one slice; bytes after it that nobody may touch */
 
 /* CHOOSE_SECOND is planner_choose where the first sheet passes and the second is refused. */
@@ -429,14 +429,16 @@ static void try_job(uint64_t number)
     try_choices(t, w);
 }
 
-/* Planning returns 0 to 8, 17 and 18; the check and the choice 0 to 16, by the second sheet alone
- * 9 to 16. */
+/* Planning returns 0 to 8, 17 and 18; the check and the choice 0 to 16 and 20, by the second sheet
+ * alone 9 to 16 and 20. */
 static bool can_return(enum call call, unsigned number)
 {
+    bool of_a_sheet = (number >= 9 && number <= 16) || number == 20;
+
     switch (call) {
-    case PLAN: return number <= 8 || number >= 17;
-    case CHOOSE_SECOND: return number >= 9 && number <= 16;
-    default: return number <= 16;
+    case PLAN: return number <= 8 || number == 17 || number == 18;
+    case CHOOSE_SECOND: return of_a_sheet;
+    default: return number <= 8 || of_a_sheet;
     }
 }
 

@@ -58,6 +58,13 @@ build '' && "$dir/differential" 1 1000 >"$dir/report" || { cat "$dir/report"; ec
 [ $? -eq 1 ] && grep -q '^FAIL' "$dir/report" || { echo "one job is taken for enough"; exit 1; }
 
 fault '14 not tested' 'reference 14' 's/return 14;/return 0;/'
+fault '20 not tested' 'number: library [01].*, reference 20' 's/return 20;/;/'
+fault '20 tested after the discarded block' 'number: library \(9\|14\), reference 20' \
+    's/^        return 20;/        ;/;s/^    a->discard = /    if (s->held[d] < job->slots[d]) return 20;\n&/'
+fault '20 where the fetch leaves a slot empty' 'number: library [01].*, reference 20' \
+    '/^static unsigned check_action/,/^}/s/^    if \(s->held\[d\] < /    if (s->held[d] + 1u < /'
+fault '20 where the slots are full' 'number: library 20, reference 0' \
+    '/^static unsigned check_action/,/^}/s/^    if \(s->held\[d\] < /    if (s->held[d] >= /'
 fault 'unfinished sheets pass' 'number: library 0, reference 15' 's/return 15;/return 0;/'
 fault 'lowest number among several nevers' 'DISAGREE: s' 's/(distance\[b\] )>=( l->distance\[v->min_block)/\1>\2/'
 fault 'P-CON never waits' 'DISAGREE' 's/rule == REF_P_CON && waits/false \&\& waits/'
@@ -94,7 +101,7 @@ fault "the other sheet's length" 'DISAGREE: counts' 's/len\[out->which\]/len[1 -
 fault 'the same memory refused' 'number: library 16, reference 0' \
     '/^uint32_t planner_choose/,/^}/s/^    return number;/    if (number == 0 \&\& first == second) return 16;\n&/'
 fault 'the second sheet changed' 'DISAGREE: second sheet' \
-    '/^uint32_t planner_choose/,/^}/s/^    return number;/    if (second_length > 0) ((uint8_t *)second)[0] ^= 1;\n&/'
+    '/^uint32_t planner_choose/,/^}/s/^    return number;/    if (second_length > 0 \&\& second != first) ((uint8_t *)second)[0] ^= 1;\n&/'
 fault 'a byte past the second sheet read' 'STOPPED' \
     '/^uint32_t planner_choose/,/^}/s/^    return number;/    if (second != NULL \&\& ((const volatile uint8_t *)second)[second_length] == 255) return 9;\n&/'
 fault 'counts written by a refused choice' 'DISAGREE: counts' '/^uint32_t planner_choose/,/^}/s/if \(number == 0\)$/if (number != 99)/'

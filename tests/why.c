@@ -16,9 +16,10 @@ static const char *const words[] = {
     "not refused",
     "ticket ends", "than 8", "than 64", "than 512", "a block lies on", "2048 references",
     "a reference", "ticket's closing",
-    "sheet ends", "2048 rounds", "its own", "already", "every slot", "discards a block", "are left",
-    "sheet's closing",
-    "short sheet", "sparing sheet", "page"
+    "sheet ends", "2048 rounds", "its own", "already", "every slot", "not in its buffer",
+    "are left", "sheet's closing",
+    "short sheet", "sparing sheet", "page",
+    "is empty"
 };
 
 enum { NUMBERS = sizeof words / sizeof words[0] };

@@ -163,7 +163,7 @@ tickets()
     show 'a sheet for a damaged ticket' 102009001000 001800
 }
 
-# Damaged sheets, in the order of the numbers 9 to 16, and odd ones that pass.
+# Damaged sheets, in the order of the numbers 9 to 16 and 20, and odd ones that pass.
 sheets()
 {
     show '9: empty' "$G" ''
@@ -181,8 +181,10 @@ sheets()
     show '16: a closing bit' "$G" 0068010220140a8090320380a078120280e0481e038090
     show '16: a byte more' "$A" 00180000
     show '16: a byte more, past a byte edge' "$A" 00280000
+    show '20: a discard beside an empty slot' "$F" 00440480101c0500c01011024040
+    show '20: before the end inside the discarded block' "$A" 001802
+    show '20: before 14' "$A" 00180200
     show 'rounds after the last reference' "$A" 00380000
-    show 'a discard beside an empty slot' "$F" 00440480101c0500c01011024040
     show 'names for other blocks' "$A" 001800 -n cases/G.names
 }
 
@@ -210,7 +212,7 @@ for group in cases good texts tickets sheets usage; do
     $group >"$out/$group.out"
     diff -u "expected/$group.out" "$out/$group.out" || bad=1
 done
-for number in $(seq 1 16); do
+for number in $(seq 1 16) 20; do
     grep -q "^refused $number: " "$out"/*.out || { echo "number $number is not met"; bad=1; }
 done
 [ $bad -eq 0 ] && echo 'check: all as expected'

@@ -68,6 +68,9 @@ static bool read_discard(struct fields *f, const struct play *play, struct place
                       "though every slot is taken", at.round, at.disk, name[action->fetch]);
     if (bit == 0)
         return true;
+    if (play->held[at.disk] < play->job->slots[at.disk])
+        return refuse(refusal, 20, "round %u, disk %u fetches block %s and discards one, "
+                      "though a slot is empty", at.round, at.disk, name[action->fetch]);
     if (!take(f, 9, &action->discard))
         return ends_early(at, refusal);
     if (!play->resident[action->discard] || play->job->disk_of[action->discard] != at.disk)

@@ -8,7 +8,7 @@ build=$1
 dir=$build/mutant
 missed=0
 tried=0
-cat ../vectors/L2.txt ../vectors/edges.txt ../vectors/longest.txt >"$build/all.txt" || exit 2
+cat ../vectors/L3.txt ../vectors/edges.txt ../vectors/longest.txt >"$build/all.txt" || exit 2
 
 # trial NAME SCRIPT TEST WORDS ARGUMENT... - the changed copy must differ and compile, and the test
 # must say what is wrong with it: a crash would not do.
@@ -68,6 +68,16 @@ of_other='s/rule = \(enum ref_rule\)drawn.planned.mark/rule = (enum ref_rule)(1 
 page_length='((size_t)drawn.planned.counts[choice(drawn.planned.counts)].rounds * drawn.job.disks + REF_LEGEND) * REF_LINE'
 in_page='/^unsigned ref_page/,/^}/'
 
+in_action='/^static unsigned check_action/,/^}/'
+no_20='s/^        return 20;/        ;/'
+test_20='if (s->held[d] < job->slots[d]) return 20;'
+discards='r->at < 8 * r->len \&\& (r->bytes[r->at \/ 8] >> (7 - r->at % 8) \& 1)'
+
+# tested_20 EXPRESSION - the script that has 20 returned where this holds.
+tested_20() {
+    printf '%ss/^    if \\(s->held\\[d\\] < .*/    if (%s)/' "$in_action" "$1"
+}
+
 # shown LETTER OTHER - the script that has another letter stand on the page for this one.
 shown() {
     printf "s/line\\\\[15\\\\] = .*/line[15] = (uint8_t)(letter == '%s' ? '%s' : letter);/" "$1" "$2"
@@ -105,7 +115,7 @@ mutant 'demand-only fetching' "$demand"
 mutant 'prefetch in round 1, later only demands' \
     "s/^    survey\\(.*/&\\nif (before > 0) $each_disk $on_demand/"
 mutant 'Definition 4 to the letter: idle beside an empty slot' \
-    's/held\[d\] < job->slots\[d\]\)$/held[d] < job->slots[d] \&\& (v.min_block == REF_NONE || l->distance[v.min_block] >= l->distance[v.u]))/'
+    '/^static char decide/,/^}/s/held\[d\] < job->slots\[d\]\)$/held[d] < job->slots[d] \&\& (v.min_block == REF_NONE || l->distance[v.min_block] >= l->distance[v.u]))/'
 mutant 'Definition 5 to the letter: a block out beside an empty slot' \
     "s/return 'E'/return rule == REF_P_CON \\&\\& v.min_block != REF_NONE ? 'M' : 'E'/"
 mutant 'Definition 5 to the letter: discards a block due before U' "$early"
@@ -177,8 +187,19 @@ mutant '11 and 12 tested after the whole action' \
 mutant 'one block too many held' 's/held\[d\] < job->slots\[d\] \? 0/held[d] <= job->slots[d] ? 0/'
 mutant 'a block of another disk discarded' 's/job->disk\[v\] != d \|\| !s/!s/'
 mutant 'the fetched block itself discarded' 's/\|\| !s->resident\[v\]\)/|| (!s->resident[v] \&\& v != a->fetch))/'
-mutant 'a discard beside an empty slot refused (L3)' \
-    's/^    a->discard = /    if (s->held[d] < job->slots[d]) return 14;\n&/'
+mutant 'a discard beside an empty slot passes' 's/return 20;/;/'
+mutant '14 for 20' 's/return 20;/return 14;/'
+mutant '20 tested after 9 of the discarded block' "$no_20
+    s/^    if \\(v >= job->blocks \\|\\| job->disk\\[v\\] != d \\|\\| !s/    $test_20\\n&/"
+mutant '20 tested after 14' "$no_20
+    s/^    a->discard = /    $test_20\\n&/"
+mutant '20 tested before 11' "${in_action}s/^    if \\(v >= job->blocks \\|\\| job->disk\\[v\\] != d\\)\$/    if ($discards) $test_20\\n&/"
+mutant '20 tested before 12' "${in_action}s/^    if \\(s->resident\\[v\\]\\)/    if ($discards) $test_20\\n&/"
+mutant '20 where the slots are full' "$(tested_20 's->held[d] >= job->slots[d]')"
+mutant '20 for an empty buffer only' "$(tested_20 's->held[d] == 0')"
+mutant '20 where the fetch leaves a slot empty' "$(tested_20 's->held[d] + 1u < job->slots[d]')"
+mutant "20 by disk 0's slots" "$(tested_20 's->held[d] < job->slots[0]')"
+mutant "20 by disk 0's buffer" "$(tested_20 's->held[0] < job->slots[0]')"
 mutant '16 tested before 15' \
     '/^static unsigned check_rounds/,/^}/s/^    if \(next_read < /    if (!closes(r)) return 16;\n&/'
 mutant 'unfinished sheets pass' 's/return 15;/return closes(r) ? 0 : 16;/'

@@ -1,4 +1,4 @@
-/* reference.c - document 01 and requests L1 and L2, sentence by sentence; words between quotation
+/* reference.c - document 01 and requests L1 to L3, sentence by sentence; words between quotation
  * marks are their own. */
 #include "reference.h"
 
@@ -487,7 +487,8 @@ unsigned ref_page(const uint8_t *ticket, size_t n, uint8_t *p_min, size_t ns,
 
 /* ---- The check ---- */
 
-/* Reads one action and tests it: 9 before a field's value, then 11 to 14. */
+/* Reads one action and tests it: 9 before a field's value, then 11 to 14, and "20, a discard though a
+ * slot is empty, tested once the discard bit is read as 1 and before the discarded block's field". */
 static unsigned check_action(struct reader *r, const struct ref_job *job,
                              const struct buffers *s, unsigned d, struct ref_action *a)
 {
@@ -509,6 +510,8 @@ static unsigned check_action(struct reader *r, const struct ref_job *job,
         return 9;
     if (v == 0)
         return s->held[d] < job->slots[d] ? 0 : 13;
+    if (s->held[d] < job->slots[d])
+        return 20;
     if (!field(r, 9, &v))
         return 9;
     if (v >= job->blocks || job->disk[v] != d || !s->resident[v])

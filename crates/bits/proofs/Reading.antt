@@ -91,6 +91,21 @@ pub refuse-ok : (n : ℕ) (t : Bool) (l : List ℕ) → t ≡ false → refuseIf
 unfolding refuseIf
 refuse-ok n t l e = rw e
 
+pub refuse-stop : (n : ℕ) (t : Bool) (l : List ℕ) → t ≡ true → refuseIf n t l ≡ stop n
+unfolding refuseIf
+refuse-stop n t l e = rw e
+
+pub then-stop : {A B : Type 0} (m : Reader A) (r : Reader B) (l : List ℕ) {n : ℕ} → m l ≡ stop n → (m >> r) l ≡ stop n
+unfolding _>>_ bind
+then-stop m r l e = ap (λ (x : Read _). bind x (λ _. r)) e
+
+-- A step whose first part gives a value where a test holds, and stops where not, does the same.
+pub bind-if : {A B : Type 0} (m : Reader A) (f : A → Reader B) (l : List ℕ) (t : Bool) (a : A) (after : List ℕ) (n : ℕ) {x : Read B}
+    → m l ≡ cond t (got a after) (stop n) → f a after ≡ x → (m >>= f) l ≡ cond t x (stop n)
+unfolding _>>=_ bind
+bind-if m f l true a after n e g = bind-ok m f l e ∙ g
+bind-if m f l false a after n e g = ap (λ (r : Read _). bind r f) e
+
 pub closing-ok : (n : ℕ) (l : List ℕ) → length l < 8 → allZero l ≡ true → closing n l ≡ got tt []
 unfolding closing isClosed
 closing-ok n l p z = let e : ltb (length l) 8 && allZero l ≡ true = rw (lt-ltb (length l) 8 p, z) in rw (e, closing)
@@ -125,3 +140,9 @@ closing-closed n l e = closing-is n l ∙ ap (λ (t : Bool). cond t (got tt []) 
 pub readAll-ok : {A : Type 0} (r : Reader A) (s : List ℕ) {a : A} {rest : List ℕ} → r (bits s) ≡ got a rest → readAll r s ≡ given a
 unfolding readAll answer
 readAll-ok r s e = ap answer e
+
+pub readAll-if : {A : Type 0} (r : Reader A) (s : List ℕ) (t : Bool) (a : A) (rest : List ℕ) (n : ℕ) → r (bits s) ≡ cond t (got a rest) (stop n)
+    → readAll r s ≡ cond t (given a) (refused n)
+unfolding readAll answer
+readAll-if r s true a rest n e = ap answer e
+readAll-if r s false a rest n e = ap answer e

@@ -1,12 +1,12 @@
 -- One action: what stands at a position is what the reader of the model reads there. Assumes nothing.
-use mathlib.Core.Path.{_≡_, refl}
+use mathlib.Core.Path.{_≡_, refl, sym, ap, _∙_}
 use mathlib.Core.Bool.{Bool, not, _&&_, _||_}
 use mathlib.Core.List.{List}
 use Prim.Native.Nat.{ℕ, zero, suc, _+_, _<_}
 use native.Mathlib.Omega.{arith}
 use lib.Dec.{ltb, leb, eqb}
 use lib.ListN.{getD, drop}
-use borrow.Author.Tests.{ltb-true, ltb-false, lt-leb, le-leb, ne-eqb}
+use borrow.Author.Tests.{ltb-true, ltb-false, lt-ltb, le-ltb, leb-true, leb-false, lt-leb, le-leb, ne-eqb}
 use Rattle.bits.specs.Bits.{bits}
 use Rattle.bits.specs.Reading.{Reader, bind, _>>=_, _>>_, give, field, refuseIf}
 use Rattle.bits.specs.Fields.{fieldAt}
@@ -52,6 +52,12 @@ module _ (j : Job) (marks : List Bool) (d blocks : ℕ) (disk : List ℕ) (full 
       (λ t. let l = ltb-true x blocks t in rw (t, lt-leb blocks x l, h .diskAt x l))
       (λ t. rw (t, le-leb blocks x (ltb-false x blocks t))))
 
+  empty-seen : ltb (load j marks d) (slotsOf j d) ≡ not full
+  empty-seen =
+      by-test full
+      (λ t. le-ltb (load j marks d) (slotsOf j d) (leb-true (slotsOf j d) (load j marks d) (h .taken ∙ t)) ∙ ap not (sym t))
+      (λ t. lt-ltb (load j marks d) (slotsOf j d) (leb-false (slotsOf j d) (load j marks d) (h .taken ∙ t)) ∙ ap not (sym t))
+
   module _ (s : List ℕ) (at : ℕ) where
     -- the discarded block z
     replace-reads : (x z : ℕ) → (refuseIf 14 (not (holds j marks d z)) >> give (replace x z)) (drop (at + 10 + 1 + 9) (bits s))
@@ -70,9 +76,12 @@ module _ (j : Job) (marks : List Bool) (d blocks : ℕ) (disk : List ℕ) (full 
         let after : at + 10 + 1 ≡ at + 11 = omega arith in
         due-bit (at + 10) at s (discardReader j marks d x) _ _
         (rw (h .taken, after) (by-test full (λ t. rw t) (λ t. rw t)))
-        (λ k. field-then 9 9 (at + 10 + 1) s _
+        (λ k. rw empty-seen
+        (by-test full
+        (λ t. rw t (field-then 9 9 (at + 10 + 1) s _
         (λ f. actRead s at (discardedBy x (namedOf blocks disk marks d f)))
-        (omega arith) refl (replace-reads x))
+        (omega arith) refl (replace-reads x)))
+        (λ t. rw t refl)))
 
     -- the fetched block x
     fetch-reads : (x : ℕ)

@@ -1,5 +1,5 @@
 -- A sheet read and played action by action, as the code does it: what one action is, what the rest of a round and of a sheet gives, and what the
--- check answers. Document 01, "Playing a round", and 9 to 16 of "Numbers of a refused call". Assumes nothing.
+-- check answers. Document 01, "Playing a round", and 9 to 16 of "Numbers of a refused call"; 20 of request L3. Assumes nothing.
 use mathlib.Core.Bool.{Bool, cond, _&&_}
 use mathlib.Core.List.{List}
 use Prim.Native.Nat.{ℕ, zero, suc, _+_}
@@ -60,11 +60,11 @@ discardedBy x (Missing z) = Refused 14
 discardedBy x (Resident z) = Replace x z
 
 -- What follows the fetched block x, at the bit `at`; `full` says that every slot of disk d is taken. "13. Nothing is discarded though every slot is
--- taken."
+-- taken." L3: "20, a discard though a slot is empty, tested once the discard bit is read as 1 and before the discarded block's field".
 unfoldable pub discardAt : List ℕ → ℕ → ℕ → List ℕ → List Bool → ℕ → ℕ → Bool → Act
 unfolding fieldAt namedAfter
 discardAt s at blocks disk marks d x full =
-    onBit (fieldAt s at 1) (cond full (Refused 13) (Fetch x)) (discardedBy x (namedAfter s at blocks disk marks d))
+    onBit (fieldAt s at 1) (cond full (Refused 13) (Fetch x)) (cond full (discardedBy x (namedAfter s at blocks disk marks d)) (Refused 20))
 
 -- The action of disk d at the bit `at`.
 unfoldable pub actionAt : List ℕ → ℕ → ℕ → List ℕ → List Bool → ℕ → Bool → Act

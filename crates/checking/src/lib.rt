@@ -1,4 +1,4 @@
-// A sheet read and played action by action. Document 01, "Playing a round", and 9 to 16 of "Numbers of a refused call".
+// A sheet read and played action by action. Document 01, "Playing a round", and 9 to 16 of "Numbers of a refused call"; 20 of request L3.
 use bits::Field;
 use job::Job;
 use playing::Buffers;
@@ -99,6 +99,9 @@ fn discard(
             return Act::Refused(13);
         }
         return Act::Fetch(x);
+    }
+    if !full {
+        return Act::Refused(20);
     }
     match block_after(sheet, at, blocks, disk, resident, d) {
         Named::Ended => Act::Refused(9),

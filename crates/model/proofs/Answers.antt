@@ -105,6 +105,10 @@ ticketF = hex 15 0x2020805009200e020180002020200c
 abbrev ticketG : List ℕ
 ticketG = hex 32 0x2060c080002490150000404040180002050301c0404028180001010100600008
 
+-- one disk, two slots, two blocks, string 0 1
+abbrev pub ticketTwo : List ℕ
+ticketTwo = hex 8 0x1040100004000080
+
 -- one disk, one slot, 101 blocks, string 100 10 100 10 .. of ten references
 abbrev ticketTen : List ℕ
 ticketTen = hex 54 0x10232800000000000000000000000000000000000000000000000000000000000000000000000000000a32028c80a32028c80a320280
@@ -172,7 +176,7 @@ linesTen =
 
 -- Where two tests that follow each other can both refuse, a row says which one does. These cannot: 1 inside the last reference and 8; 10 and the end
 -- inside the first fetch bit, since a sheet has whole bytes; 11 for a block of B or more and 12, since no such block is ever in a buffer; 13
--- and 14, since the discard bit selects one of them.
+-- and 20 or 14, since the discard bit selects one of them.
 pub table : List Case
 unfolding hex outcome text ended _>>=_ _>>_ bind give field refuseIf many isClosed closing answer readAll slotsField diskField refField ticketReader ticketOf discardReader fetchReader actionReader roundReader roundsReader sheetReader scheduleRead play load noneResident
 table =
@@ -257,14 +261,14 @@ table =
     row (check (hex 6 0x102008001001) (hex 2 0x8010)) (number 8) refl ∷
     -- The order of a sheet's refusals. 9 comes before the value of the field in which the sheet ends. With zeros for the bits that are missing, it
     -- would be 0 and 4,080 rounds; fetches of block 448 of 1, with D's ticket of block 0 by disk 1, and of block 0 again; with C's ticket nothing
-    -- discarded though the one slot is taken; a discard of block 0, which is not in the buffer.
+    -- discarded though the one slot is taken; with ones, a discard though it is empty.
     row (check ticketA []) (number 9) refl ∷
     row (check ticketA (hex 1 0xff)) (number 9) refl ∷
     row (check ticketA (hex 2 0x001f)) (number 9) refl ∷
     row (check ticketD (hex 2 0x0014)) (number 9) refl ∷
     row (check ticketA (hex 3 0x002801)) (number 9) refl ∷
     row (check ticketC (hex 5 0x0098000201)) (number 9) refl ∷
-    row (check ticketA (hex 3 0x001802)) (number 9) refl ∷
+    row (check ticketA (hex 3 0x003200)) (number 9) refl ∷
     -- R comes before the end inside the rounds: 2,049 rounds, before round 5, and before the block that round 1 fetches.
     row (check ticketA (hex 2 0x8010)) (number 10) refl ∷
     row (check ticketA (hex 2 0x8018)) (number 10) refl ∷
@@ -276,19 +280,19 @@ table =
     row (check ticketA (hex 3 0x001816)) (number 11) refl ∷
     row (check ticketD (hex 3 0x001809)) (number 11) refl ∷
     -- What is discarded comes before the end inside the next action. Nothing, though the one slot is taken: with C's ticket, before the next round,
-    -- and with D's, before disk 1's action. Block 0, which is not in the buffer: before the next round, and with D's ticket before disk 1's action.
+    -- and with D's, before disk 1's action. Block 1, which is not in the buffer though its one slot is taken: likewise.
     row (check ticketC (hex 5 0x0098000402)) (number 13) refl ∷
     row (check ticketD (hex 7 0x00380080600400)) (number 13) refl ∷
-    row (check ticketA (hex 4 0x00280200)) (number 14) refl ∷
-    row (check ticketD (hex 4 0x00180200)) (number 14) refl ∷
+    row (check ticketC (hex 6 0x00980100c020)) (number 14) refl ∷
+    row (check ticketD (hex 7 0x00320040480601)) (number 14) refl ∷
     -- 11 comes before 12: with D's ticket disk 1 fetches block 0 of disk 0, which is in the buffer there. 12 comes before 13: block 0 is fetched
     -- twice, and nothing is discarded though the one slot is taken.
     row (check ticketD (hex 5 0x0018010000)) (number 11) refl ∷
     row (check ticketA (hex 5 0x0028010000)) (number 12) refl ∷
     -- 13 and 14 come before 15, with references left after the last action: with D's ticket disk 1 fetches block 3 beside block 2 in its one slot;
-    -- with C's ticket block 0 is discarded from the empty buffer.
+    -- with C's ticket block 1 is discarded, which is not in the one slot.
     row (check ticketD (hex 5 0x0024044060)) (number 13) refl ∷
-    row (check ticketC (hex 4 0x00180600)) (number 14) refl ∷
+    row (check ticketC (hex 6 0x00280100c020)) (number 14) refl ∷
     -- 9 comes before 15, with the reference left: the sheet ends where round 5 is due, and inside the block that round 2 fetches.
     row (check ticketA (hex 2 0x0050)) (number 9) refl ∷
     row (check ticketA (hex 2 0x0024)) (number 9) refl ∷
@@ -301,9 +305,32 @@ table =
     -- one slot; the fetched block is itself discarded; with D's ticket disk 0 discards block 2, which is in the buffer of disk 1, and block 9 of 4.
     row (check ticketD (hex 3 0x001808)) (number 11) refl ∷
     row (check ticketC (hex 5 0x0038010080)) (number 13) refl ∷
-    row (check ticketA (hex 4 0x00180200)) (number 14) refl ∷
+    row (check ticketC (hex 6 0x00380100c020)) (number 14) refl ∷
     row (check ticketD (hex 7 0x00380101201808)) (number 14) refl ∷
     row (check ticketD (hex 7 0x00380101201824)) (number 14) refl ∷
+    -- Request L3: "20, a discard though a slot is empty". Two slots: block 1 replaces block 0 beside the empty one, in a sheet that document 01 lets
+    -- pass (`LegalSheet`, specs/Valid.antt). With F's ticket disk 0 discards from its one full slot, and disk 1 from two slots of which one is empty.
+    row (check ticketTwo (hex 6 0x00280100c000)) (number 20) refl ∷
+    row (check ticketF (hex 10 0x00280101201802038080)) (number 20) refl ∷
+    -- "tested once the discard bit is read as 1 and before the discarded block's field (so before 9 of that field, and before 14)": the sheet ends
+    -- inside the field, and block 0 is discarded from the empty buffer; where the slot is full, 9 and (above) 14.
+    row (check ticketA (hex 3 0x001802)) (number 20) refl ∷
+    row (check ticketA (hex 4 0x00180200)) (number 20) refl ∷
+    row (check ticketC (hex 5 0x00280100c0)) (number 9) refl ∷
+    -- 11 and 12 come before it: block 5 of 2, and block 0 again, which is resident beside an empty slot.
+    row (check ticketTwo (hex 3 0x001816)) (number 11) refl ∷
+    row (check ticketTwo (hex 5 0x0028010040)) (number 12) refl ∷
+    -- It comes before the end inside the next action, and before 15 and 16: the next round, and with D's ticket disk 1's action; the references of C
+    -- are left; a closing bit, and a byte more.
+    row (check ticketA (hex 4 0x00280200)) (number 20) refl ∷
+    row (check ticketD (hex 4 0x00180200)) (number 20) refl ∷
+    row (check ticketC (hex 4 0x00180200)) (number 20) refl ∷
+    row (check ticketTwo (hex 6 0x00280100c001)) (number 20) refl ∷
+    row (check ticketTwo (hex 7 0x00280100c00000)) (number 20) refl ∷
+    -- Where every slot is taken the discard passes: two slots, three blocks, and block 2 replaces block 0. A choice has the check's number.
+    row (check (hex 9 0x1040180000c0001010) (hex 7 0x00380100a02800)) (passes (counts 3 3 0)) refl ∷
+    row (choose ticketTwo (hex 6 0x00280100c000) (hex 2 0x0000)) (number 20) refl ∷
+    row (choose ticketTwo (hex 5 0x0028010080) (hex 6 0x00280100c000)) (number 20) refl ∷
     -- Request L1: "The second is handed back if it takes no more rounds than the first, otherwise the first". F's two sheets of 4 rounds, in either
     -- order; G's, of 6 and 7 rounds; A's with an idle round more, which is counted.
     row (choose ticketF (hex 14 0x00480101101a018020480d01c080) (hex 11 0x00480101101a0180081202)) (chose isSecond 11) refl ∷

@@ -21,16 +21,15 @@ use Rattle.model.specs.Playing.{Action, idle, fetch, replace, Schedule, 
 use Rattle.model.specs.Rules.{action, Rule, short, sparing}
 use Rattle.model.specs.Plans.{each, choices, planFrom, planOf, scheduleOf}
 use Rattle.model.specs.Sheet.{actionBits, roundBits, roundsBits, sheetBits, sheetOf}
-use Rattle.model.specs.Valid.{ValidFrom, ValidSheet}
+use Rattle.model.specs.Valid.{Ready, ValidFrom, discardsFullFrom, LegalSheet, ValidSheet}
 use Rattle.model.specs.Calls.{Counts, countsOf, fetchesOn, shortCounts, sparingCounts, Which, isFirst, isSecond, ofTwo, whichFor, Mark, isShort, isSparing, Planned, markFor, chosen, handed, handedCounts, plannedOf, withRooms, plannedFor, planAnswer, returned, partAfter, passOf, checkFor, checkAnswer}
 use Rattle.model.proofs.Choosing.{Lawful, short-lawful, sparing-lawful}
 use Rattle.model.proofs.Rounds.{ready-start, ready-after}
-use Rattle.model.specs.Valid.{Ready}
-use Rattle.model.proofs.Plans.{length-each, actionsOf, plan-round, plan-consumes, plan-valid, plan-few}
+use Rattle.model.proofs.Plans.{length-each, actionsOf, plan-round, plan-consumes, plan-valid, plan-full, plan-few}
 use Rattle.model.proofs.Short.{ahead-self, short-unbeaten}
 use Rattle.model.proofs.Sparing.{sparing-unbeaten}
 use Rattle.model.proofs.Check.{passed, ticket-sound}
-use Rattle.model.proofs.Validity.{read-valid, valid-read}
+use Rattle.model.proofs.Validity.{read-valid, legal-read}
 use Rattle.model.proofs.Longest.{passed-length}
 
 -- a pass, and the valid sheets
@@ -45,9 +44,19 @@ passes-valid t s c e =
     let p = passed t s c e in
     (p .job, p .schedule, p .ticket, read-valid (p .job) (p .sound) s (p .schedule) (p .read), p .counts)
 
-pub valid-passes : (t s : List ℕ) (j : Job) (schedule : Schedule) → ticketOf t ≡ given j → ValidSheet j s schedule → checkAnswer t s ≡ given (countsOf schedule)
+-- what the check gives for a sheet of document 01
+pub legal-answer : (t s : List ℕ) (j : Job) (schedule : Schedule) → ticketOf t ≡ given j → LegalSheet j s schedule
+    → checkAnswer t s ≡ cond (discardsFullFrom j (start j) schedule) (given (countsOf schedule)) (refused 20)
 unfolding checkAnswer checkFor passOf
-valid-passes t s j schedule e v = ap (checkFor s) e ∙ ap passOf (valid-read j (ticket-sound t j e) s schedule v)
+legal-answer t s j schedule e v = ap (checkFor s) e ∙ ap passOf (legal-read j (ticket-sound t j e) s schedule v) ∙ pass-if (discardsFullFrom j (start j) schedule)
+  where
+    pass-if : (full : Bool) → passOf (cond full (given schedule) (refused 20)) ≡ cond full (given (countsOf schedule)) (refused 20)
+    pass-if true = refl
+    pass-if false = refl
+
+pub valid-passes : (t s : List ℕ) (j : Job) (schedule : Schedule) → ticketOf t ≡ given j → ValidSheet j s schedule → checkAnswer t s ≡ given (countsOf schedule)
+valid-passes t s j schedule e v =
+    legal-answer t s j schedule e (v .legal) ∙ ap (λ (full : Bool). cond full (given (countsOf schedule)) (refused 20)) (v .full)
 
 -- the eight counts
 
@@ -119,13 +128,19 @@ module _ (j : Job) (sound : Sound j) (schedule : Schedule) (v : ValidFrom j (sta
         (λ e. let z = fetches-beyond (scheduleOf sparing j) d (ltb-false d 8 e) in omega (arith, z)),
   )
 
+-- Of any sheet that document 01 lets pass,
+pub legal-unbeaten : (t s : List ℕ) (j : Job) (schedule : Schedule) → ticketOf t ≡ given j → LegalSheet j s schedule
+    → (shortCounts j .rounds ≤ countsOf schedule .rounds) × ((d : ℕ) → fetchesOn (sparingCounts j) d ≤ fetchesOn (countsOf schedule) d)
+legal-unbeaten t s j schedule e v = counts-unbeaten j (ticket-sound t j e) schedule (v .valid)
+
+-- so of any that passes.
 pub unbeaten : (t s : List ℕ) (j : Job) (c : Counts) → ticketOf t ≡ given j → checkAnswer t s ≡ given c
     → (shortCounts j .rounds ≤ c .rounds) × ((d : ℕ) → fetchesOn (sparingCounts j) d ≤ fetchesOn c d)
 unbeaten t s j c e pass =
     let v = passes-valid t s c pass in
     let sheet = subst (λ (x : Job). ValidSheet x s (v .1)) (one-job t (v .2) e) (v .3) in
     subst (λ (x : Counts). (shortCounts j .rounds ≤ x .rounds) × ((d : ℕ) → fetchesOn (sparingCounts j) d ≤ fetchesOn x d)) (v .4)
-    (counts-unbeaten j (ticket-sound t j e) (v .1) (sheet .valid))
+    (legal-unbeaten t s j (v .1) e (sheet .legal))
 
 -- Demand 2. The bits of a sheet are bits, so its bytes hold them and the closing zeros.
 
@@ -149,9 +164,9 @@ pub sheet-bits : (schedule : Schedule) → Bits (sheetBits schedule)
 unfolding sheetBits
 sheet-bits schedule = digits-are 12 (length schedule) (roundsBits schedule) (rounds-bits schedule)
 
-pub valid-sheet : (j : Job) (schedule : Schedule) → length schedule ≤ 2048 → ValidFrom j (start j) schedule → ValidSheet j (sheetOf schedule) schedule
+pub legal-sheet : (j : Job) (schedule : Schedule) → length schedule ≤ 2048 → ValidFrom j (start j) schedule → LegalSheet j (sheetOf schedule) schedule
 unfolding sheetOf
-valid-sheet j schedule few v =
+legal-sheet j schedule few v =
     let p = bits-pack (sheetBits schedule) (sheet-bits schedule) in
     record { fewRounds = few; valid = v; closingBits = p .0; fewClosing = p .1; written = p .2 }
 
@@ -162,6 +177,10 @@ module _ (rule : Rule) (lawful : Lawful rule) (t : List ℕ) (j : Job) (e : tick
   pub schedule-valid : ValidFrom j (start j) (scheduleOf rule j)
   unfolding scheduleOf planOf start
   schedule-valid = plan-valid rule lawful j sound (refCount j) (start j) (ready-start j (sound .fewBlocks)) (omega arith)
+
+  schedule-full : discardsFullFrom j (start j) (scheduleOf rule j) ≡ true
+  unfolding scheduleOf planOf
+  schedule-full = plan-full rule lawful j sound (refCount j) (start j) (ready-start j (sound .fewBlocks))
 
   -- "neither takes more than N rounds"
   pub schedule-few : rounds (scheduleOf rule j) ≤ refCount j
@@ -176,7 +195,9 @@ module _ (rule : Rule) (lawful : Lawful rule) (t : List ℕ) (j : Job) (e : tick
 
   pub schedule-passes : checkAnswer t (sheetOf (scheduleOf rule j)) ≡ given (countsOf (scheduleOf rule j))
   unfolding rounds
-  schedule-passes = valid-passes t (sheetOf (scheduleOf rule j)) j (scheduleOf rule j) e (valid-sheet j (scheduleOf rule j) schedule-most schedule-valid)
+  schedule-passes =
+      valid-passes t (sheetOf (scheduleOf rule j)) j (scheduleOf rule j) e
+      (record { legal = legal-sheet j (scheduleOf rule j) schedule-most schedule-valid; full = schedule-full })
 
   -- "every plan's sheet .. fits the longest sheet's room"
   pub schedule-fits : length (sheetOf (scheduleOf rule j)) ≤ 40962

@@ -19,6 +19,7 @@ pub mod Sparing
 pub mod Written
 pub mod Validity
 pub mod Bytes
+mod Stricter
 pub mod TwoSheets
 pub mod Text
 pub mod Page

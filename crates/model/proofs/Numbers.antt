@@ -114,7 +114,7 @@ ticket-number t n e = of-whole of-ticket t n e
 of-discard : (j : Job) (marks : List Bool) (d x b : ℕ) → Numbered sheetNumbers (discardReader j marks d x b)
 unfolding discardReader among each
 of-discard j marks d x zero = next (of-refuse 13 refl _) (of-give _)
-of-discard j marks d x (suc k) = then (of-field 9 refl 9) λ z. next (of-refuse 14 refl _) (of-give _)
+of-discard j marks d x (suc k) = next (of-refuse 20 refl _) (then (of-field 9 refl 9) λ z. next (of-refuse 14 refl _) (of-give _))
 
 of-fetch : (j : Job) (marks : List Bool) (d b : ℕ) → Numbered sheetNumbers (fetchReader j marks d b)
 unfolding fetchReader among each
@@ -219,9 +219,9 @@ pub ticket-within : (t : List ℕ) (n : ℕ) → ticketOf t ≡ refused n → (1
 unfolding withinAll each
 ticket-within t n e = among-within 1 8 n ticketNumbers refl (ticket-number t n e)
 
-pub check-within : (t s : List ℕ) (n : ℕ) → checkAnswer t s ≡ refused n → (1 ≤ n) × (n ≤ 16)
+pub check-within : (t s : List ℕ) (n : ℕ) → checkAnswer t s ≡ refused n → (1 ≤ n) × (n ≤ 20)
 unfolding withinAll each
-check-within t s n e = among-within 1 16 n checkRefusals refl (check-number t s n e)
+check-within t s n e = among-within 1 20 n checkRefusals refl (check-number t s n e)
 
 pub plan-within : (t : List ℕ) (a b n : ℕ) → planAnswer t a b ≡ refused n → (1 ≤ n) × (n ≤ 18)
 unfolding withinAll each

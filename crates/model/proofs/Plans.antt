@@ -1,5 +1,5 @@
--- Plans by a rule that chooses as both rules do: each round is valid and consumes at least one reference, so a plan is a valid schedule of at
--- most as many rounds as references are left. Assumes nothing.
+-- Plans by a rule that chooses as both rules do: each round is valid, discards nothing beside an empty slot and consumes at least one reference, so
+-- a plan is a valid schedule of at most as many rounds as references are left. Assumes nothing.
 use mathlib.Core.Path.{_≡_, refl, sym, ap, _∙_, subst}
 use mathlib.Core.Logic.{_≢_}
 use mathlib.Core.Bool.{Bool, true, false}
@@ -8,18 +8,17 @@ use Prim.Native.Nat.{ℕ, zero, suc, _+_, _≤_, _<_}
 use native.Mathlib.Omega.{arith}
 use lib.Dec.{ltb}
 use lib.ListN.{length, getD}
-use borrow.Author.Tests.{ltb-true, ltb-false}
-use Rattle.bits.proofs.Logic.{by-test, clash}
+use borrow.Author.Tests.{ltb-true, ltb-false, le-leb}
+use Rattle.bits.proofs.Logic.{by-test, clash, and-true}
 use Rattle.model.specs.Job.{Sound, Job, diskCount, blockCount, refCount, slotsOf, diskOf, refAt}
 use Rattle.model.specs.Playing.{Action, idle, fetch, replace, State, isResident, load, act, playRound, fetched, discarded}
 use Rattle.model.specs.Rules.{distance, distanceNow, Choice, action, Rule}
 use Rattle.model.specs.Plans.{each, choices, planFrom}
-use Rattle.model.specs.Valid.{Legal, LegalAll, Round, ValidFrom}
-use Rattle.model.proofs.Buffers.{entered, replaced-in, fetch-kept, replace-kept, act-elsewhere, load-round}
+use Rattle.model.specs.Valid.{Legal, LegalAll, Round, Ready, ValidFrom, discardsFull, discardsFullAll, discardsFullFrom}
+use Rattle.model.proofs.Buffers.{entered, replaced-in, fetch-kept, replace-kept, act-elsewhere, load-elsewhere, load-round}
 use Rattle.model.proofs.Distances.{distance-from, distance-one, distance-here}
 use Rattle.model.proofs.Choosing.{nothing, into, sooner, waiting, over, RuleView, Lawful}
 use Rattle.model.proofs.Rounds.{own-action, round-of, ready-after}
-use Rattle.model.specs.Valid.{Ready}
 
 -- the list f i, f (i + 1), ..
 
@@ -68,7 +67,23 @@ legal-each j marks f d (suc n) h =
           (h e (omega arith) (omega arith)),
     )
 
--- a rule's choice is legal, and stays within the slots
+-- whether the slots are full goes by the load of the disk
+full-kept : (j : Job) (m n : List Bool) (d : ℕ) (a : Action) → load j n d ≡ load j m d → discardsFull j m d a ≡ true → discardsFull j n d a ≡ true
+unfolding discardsFull
+full-kept j m n d idle k h = refl
+full-kept j m n d (fetch x) k h = refl
+full-kept j m n d (replace x z) k h = rw k h
+
+full-each : (j : Job) (marks : List Bool) (f : ℕ → Choice) (d n : ℕ) → LegalAll j marks d (map action (each f d n))
+    → ((e : ℕ) → d ≤ e → e < d + n → discardsFull j marks e (action (f e)) ≡ true) → discardsFullAll j marks d (map action (each f d n)) ≡ true
+unfolding each LegalAll discardsFullAll
+full-each j marks f d zero legal h = refl
+full-each j marks f d (suc n) legal h =
+    and-true (h d (omega arith) (omega arith)) (full-each j (act marks (action (f d))) f (suc d) n (legal .1) λ e p q.
+    full-kept j marks (act marks (action (f d))) e (action (f e)) (load-elsewhere j marks d (action (f d)) (legal .0) e (λ r. absurd (omega arith)))
+    (h e (omega arith) (omega arith)))
+
+-- a rule's choice is legal, discards only where the slots are full, and stays within the slots
 
 choice-legal : (j : Job) (s : State) (d : ℕ) (c : Choice) → RuleView j s d c → Legal j (s .resident) d (action c)
 unfolding Legal
@@ -77,6 +92,14 @@ choice-legal j s d c (into u n l) = n .block
 choice-legal j s d c (sooner u v n f l p) = tt
 choice-legal j s d c (waiting w) = tt
 choice-legal j s d c (over u v n f l p x) = (n .block, l .block)
+
+choice-full : (j : Job) (s : State) (d : ℕ) (c : Choice) → RuleView j s d c → discardsFull j (s .resident) d (action c) ≡ true
+unfolding discardsFull
+choice-full j s d c (nothing h) = refl
+choice-full j s d c (into u n l) = refl
+choice-full j s d c (sooner u v n f l p) = refl
+choice-full j s d c (waiting w) = refl
+choice-full j s d c (over u v n f l p x) = le-leb (slotsOf j d) (load j (s .resident) d) f
 
 choice-fits : (j : Job) (s : State) (d : ℕ) (c : Choice) → RuleView j s d c → load j (s .resident) d ≤ slotsOf j d
     → load j (s .resident) d + fetched (action c) ≤ slotsOf j d + discarded (action c)
@@ -192,6 +215,21 @@ module _ (rule : Rule) (lawful : Lawful rule) (j : Job) (sound : Sound j) where
       by-test (ltb (s .next) (refCount j))
       (λ e. rw (e, planFrom) (t, r, ih (ltb-true _ _ e)))
       (λ e. let w = ready .within in let k = ltb-false (s .next) (refCount j) e in rw (e, planFrom) (omega (arith, w, k)))
+
+  -- It discards nothing beside an empty slot.
+  round-full : (s : State) → Ready j s → discardsFullAll j (s .resident) 0 (actionsOf rule j s) ≡ true
+  unfolding actionsOf choices
+  round-full s ready =
+      full-each j (s .resident) (rule j s) 0 (diskCount j) (plan-round s ready .legal) (λ e p q. choice-full j s e (rule j s e) (view s e (omega arith)))
+
+  pub plan-full : (most : ℕ) (s : State) → Ready j s → discardsFullFrom j s (map (map action) (planFrom rule j most s)) ≡ true
+  unfolding planFrom discardsFullFrom actionsOf
+  plan-full zero s ready = refl
+  plan-full (suc most) s ready =
+      let ih = plan-full most (playRound j s (actionsOf rule j s)) (ready-after j s (actionsOf rule j s) _ ready (plan-round s ready)) in
+      by-test (ltb (s .next) (refCount j))
+      (λ e. rw (e, planFrom) (and-true (round-full s ready) ih))
+      (λ e. rw (e, planFrom) refl)
 
   -- "neither takes more than N rounds": at most one for each reference left
   pub plan-few : (most : ℕ) (s : State) → Ready j s → length (planFrom rule j most s) + s .next ≤ refCount j

@@ -6,7 +6,7 @@
 -- (crates/planner/src/lib.rt). Assumes nothing.
 use mathlib.Core.Path.{_≡_}
 use mathlib.Core.Logic.{_↔_, _⊎_}
-use mathlib.Core.Bool.{true}
+use mathlib.Core.Bool.{true, cond}
 use mathlib.Core.List.{List, [], _∷_, _++_}
 use mathlib.Core.Option.{none, some}
 use Prim.Native.Nat.{ℕ, suc, _+_, _*_, _≤_, _<_, _^_}
@@ -21,11 +21,12 @@ use Rattle.model.specs.Plans.{scheduleOf, stateAfter}
 use Rattle.model.specs.Text.{text}
 use Rattle.model.specs.Page.{letter, lineOf, legend, ended, pageOf}
 use Rattle.model.specs.Sheet.{sheetOf}
-use Rattle.model.specs.Valid.{ValidTicket, ValidSheet}
+use Rattle.model.specs.Valid.{ValidTicket, discardsFullFrom, LegalSheet, ValidSheet}
 use Rattle.model.specs.Calls.{Counts, countsOf, fetchesOn, AllZero, shortCounts, sparingCounts, isSecond, ofTwo, isSparing, chosen, Planned, handed, handedCounts, planAnswer, shortAfter, sparingAfter, returned, partAfter, PlannedPage, planHanded, pageAnswer, planGiven, pageLength, pageAfter, checkAnswer, countsGiven, ChosenSheet, chosenOf, chooseAnswer, returnedChoice, sheetAfter, checkRefusals, planRefusals, pageRefusals, among, countsNumbers, planningNumbers, choiceNumbers, countsWritten}
 use Rattle.model.proofs.Choosing.{short-lawful, sparing-lawful}
 use Rattle.model.proofs.Ticket
 use Rattle.model.proofs.Bytes
+use Rattle.model.proofs.Stricter
 use Rattle.model.proofs.TwoSheets
 use Rattle.model.proofs.Page
 use Rattle.model.proofs.PageCall
@@ -41,7 +42,7 @@ accepted-exactly t j = (Ticket.accepted-valid t j, Ticket.valid-accepted t j)
 pub sound-accepted : (j : Job) → Sound j → ticketOf (pack (ticketBits j)) ≡ given j
 sound-accepted = Ticket.sound-accepted
 
--- A refused check gives one of 1 to 16, a refused planning call one of 1 to 8, 17 and 18; and each of these numbers is given for some bytes.
+-- A refused check gives one of 1 to 16 and 20, a refused planning call one of 1 to 8, 17 and 18; and each of these numbers is given for some bytes.
 pub check-numbers : (n : ℕ) → (among n checkRefusals ≡ true) ↔ ((t : List ℕ) × (s : List ℕ) × (checkAnswer t s ≡ refused n))
 check-numbers = Refusals.check-numbers
 
@@ -145,7 +146,7 @@ pub choose-refusals : (t first second : List ℕ) (n : ℕ) → (chooseAnswer t 
     ↔ ((checkAnswer t first ≡ refused n) ⊎ ((a : Counts) × (checkAnswer t first ≡ given a) × (checkAnswer t second ≡ refused n)))
 choose-refusals = TwoSheets.choose-refusals
 
--- A refused choice gives one of 1 to 16, and each of these is given for some bytes; it hands back no sheet and changes no lent byte.
+-- A refused choice gives one of 1 to 16 and 20, and each of these is given for some bytes; it hands back no sheet and changes no lent byte.
 pub choose-numbers : (n : ℕ) → (among n checkRefusals ≡ true) ↔ ((t : List ℕ) × (first : List ℕ) × (second : List ℕ) × (chooseAnswer t first second ≡ refused n))
 choose-numbers = Refusals.choose-numbers
 
@@ -258,3 +259,24 @@ page-longest = Page.page-longest
 pub page-fits : (t : List ℕ) (j : Job) (room₁ room₂ room₃ : ℕ) → ticketOf t ≡ given j → 40962 ≤ room₁ → 40962 ≤ room₂ → 278613 ≤ room₃
     → (p : PlannedPage) × (pageAnswer t room₁ room₂ room₃ ≡ given p)
 page-fits = PageCall.page-fits
+
+-- 7. Request L3, "No throwing out beside an empty slot. .. The check becomes stricter." "Fewer sheets pass": every sheet that passes is a sheet that
+-- document 01 lets pass (`LegalSheet`, specs/Valid.antt), with the same counts;
+pub passes-before : (t s : List ℕ) (c : Counts) → checkAnswer t s ≡ given c
+    → (j : Job) × (schedule : Schedule) × (ticketOf t ≡ given j) × LegalSheet j s schedule × (countsOf schedule ≡ c)
+passes-before = Stricter.passes-legal
+
+-- of those sheets the check passes the ones that throw nothing out beside an empty slot, and refuses all others with 20;
+pub passed-before : (t s : List ℕ) (j : Job) (schedule : Schedule) → ticketOf t ≡ given j → LegalSheet j s schedule
+    → checkAnswer t s ≡ cond (discardsFullFrom j (start j) schedule) (given (countsOf schedule)) (refused 20)
+passed-before = Bytes.legal-answer
+
+-- and there are others: the check refuses some sheet that document 01 lets pass.
+pub some-refused : (t : List ℕ) × (s : List ℕ) × (j : Job) × (schedule : Schedule) × (ticketOf t ≡ given j) × LegalSheet j s schedule × (checkAnswer t s ≡ refused 20)
+some-refused = Stricter.refused-legal
+
+-- "and planned sheets still do" (`short-passes`, `sparing-passes`), "so nobody gains a round by the change": no sheet that document 01 lets pass beats
+-- the plans either.
+pub unbeaten-before : (t s : List ℕ) (j : Job) (schedule : Schedule) → ticketOf t ≡ given j → LegalSheet j s schedule
+    → (shortCounts j .rounds ≤ countsOf schedule .rounds) × ((d : ℕ) → fetchesOn (sparingCounts j) d ≤ fetchesOn (countsOf schedule) d)
+unbeaten-before = Bytes.legal-unbeaten

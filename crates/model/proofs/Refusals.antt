@@ -64,9 +64,10 @@ checks =
     (hex 6 0x102008001000, hex 3 0x001816, refl) ⊳
     (hex 6 0x102008001000, hex 5 0x0028010000, refl) ⊳
     (hex 9 0x102010000600008000, hex 5 0x0038010080, refl) ⊳
-    (hex 6 0x102008001000, hex 4 0x00180200, refl) ⊳
+    (hex 9 0x102010000600008000, hex 6 0x00280100c020, refl) ⊳
     (hex 6 0x102008001000, hex 2 0x0000, refl) ⊳
     (hex 6 0x102008001000, hex 3 0x001801, refl) ⊳
+    (hex 6 0x102008001000, hex 4 0x00180200, refl) ⊳
     end
 
 plans : All PlanRefused planRefusals

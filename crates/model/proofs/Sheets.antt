@@ -1,4 +1,4 @@
--- A sheet that is read is the schedule written, legal and within the slots; and a legal schedule within the slots, written, is read.
+-- A sheet that is read is the schedule written: legal, within the slots, and with no discard beside an empty slot.
 -- Assumes nothing.
 use mathlib.Core.Path.{_≡_, refl, sym, ap, _∙_, subst}
 use mathlib.Core.Bool.{Bool, true, false, not, _&&_, _||_}
@@ -7,16 +7,16 @@ use Prim.Native.Nat.{ℕ, zero, suc, _≤_, _<_}
 use native.Mathlib.Omega.{arith}
 use lib.Dec.{ltb, leb, eqb}
 use lib.ListN.{length}
-use borrow.Author.Tests.{ltb-true, ltb-false, leb-false, eqb-true, not-false}
+use borrow.Author.Tests.{ltb-true, ltb-false, leb-false, le-leb, eqb-true, not-false}
 use Rattle.bits.specs.Bits.{digits}
 use Rattle.bits.specs.Reading.{got, field, refuseIf, allZero, closing}
-use Rattle.bits.proofs.Logic.{and-left, and-right, or-false-left, or-false-right}
+use Rattle.bits.proofs.Logic.{and-left, and-right, and-true, or-false-left, or-false-right}
 use Rattle.bits.proofs.Bits.{Bits, field-wrote}
 use Rattle.bits.proofs.Reading.{bind-got, then-got, give-got, refuse-got, closing-got}
 use Rattle.model.specs.Job.{Job, diskCount, blockCount, refCount, slotsOf, diskOf}
 use Rattle.model.specs.Playing.{Action, idle, fetch, replace, Schedule, State, isResident, load, act, playRound, play}
 use Rattle.model.specs.Sheet.{actionBits, roundBits, roundsBits, sheetBits, holds, discardReader, fetchReader, actionReader, roundReader, roundsReader, sheetReader}
-use Rattle.model.specs.Valid.{Block, Legal, LegalAll}
+use Rattle.model.specs.Valid.{Block, Legal, LegalAll, discardsFull, discardsFullAll, discardsFullFrom}
 
 -- A fetch that discards nothing finds a slot empty: 13 does not hold.
 unfoldable pub Room : Job → List Bool → ℕ → Action → Type 0
@@ -35,6 +35,7 @@ pub record ActionRead (j : Job) (marks : List Bool) (d : ℕ) (l : List ℕ) (a 
   pub bits : Bits rest
   pub legal : Legal j marks d a
   pub room : Room j marks d a
+  pub full : discardsFull j marks d a ≡ true
 
 -- a field of one bit is that bit
 small-digit : (v : ℕ) → v < 2 → digits 1 v ≡ v ∷ []
@@ -68,7 +69,7 @@ held-of j marks d z e =
 
 discard-read : (j : Job) (marks : List Bool) (d x k : ℕ) (l : List ℕ) (a : Action) (rest : List ℕ) → k < 2 → Bits l → Block j marks d x false
     → discardReader j marks d x k l ≡ got a rest → ActionRead j marks d (1 ∷ (digits 9 x ++ k ∷ l)) a rest
-unfolding discardReader actionBits Legal Room
+unfolding discardReader actionBits Legal Room discardsFull
 discard-read j marks d x zero l a rest p bits block e =
     then-got (refuseIf 13 (leb (slotsOf j d) (load j marks d))) _ l e λ _ l₁ e₁ e.
     refuse-got 13 (leb (slotsOf j d) (load j marks d)) l e₁ λ t q.
@@ -78,28 +79,32 @@ discard-read j marks d x zero l a rest p bits block e =
       bits = subst Bits (q ∙ r) bits;
       legal = block;
       room = leb-false (slotsOf j d) (load j marks d) t;
+      full = refl;
     })
 discard-read j marks d x (suc zero) l a rest p bits block e =
-    bind-got (field 9 9) _ l e λ z l₁ e₁ e.
+    then-got (refuseIf 20 (ltb (load j marks d) (slotsOf j d))) _ l e λ _ l₀ e₀ e.
+    refuse-got 20 (ltb (load j marks d) (slotsOf j d)) l e₀ λ t₀ q₀.
+    bind-got (field 9 9) _ l₀ e λ z l₁ e₁ e.
     then-got (refuseIf 14 (not (holds j marks d z))) _ l₁ e λ _ l₂ e₂ e.
     refuse-got 14 (not (holds j marks d z)) l₁ e₂ λ t q.
     give-got e λ same r.
-    let f = field-wrote 9 9 l bits e₁ in
+    let f = field-wrote 9 9 l₀ (subst Bits q₀ bits) e₁ in
     subst (λ (y : Action). ActionRead j marks d (1 ∷ (digits 9 x ++ 1 ∷ l)) y rest) same (record {
-      wrote = ap (λ (m : List ℕ). 1 ∷ m) (ap (λ (m : List ℕ). digits 9 x ++ 1 ∷ m) (f .1 ∙ ap (λ (m : List ℕ). digits 9 z ++ m) (q ∙ r)) ∙ sym (append-assoc (digits 9 x) (1 ∷ digits 9 z) rest));
+      wrote = ap (λ (m : List ℕ). 1 ∷ m) (ap (λ (m : List ℕ). digits 9 x ++ 1 ∷ m) (q₀ ∙ f .1 ∙ ap (λ (m : List ℕ). digits 9 z ++ m) (q ∙ r)) ∙ sym (append-assoc (digits 9 x) (1 ∷ digits 9 z) rest));
       bits = subst Bits (q ∙ r) (f .2);
       legal = (block, held-of j marks d z t);
       room = tt;
+      full = le-leb (slotsOf j d) (load j marks d) (ltb-false (load j marks d) (slotsOf j d) t₀);
     })
 discard-read j marks d x (suc (suc k)) l a rest p bits block e = absurd (omega arith)
 
 fetch-read : (j : Job) (marks : List Bool) (d v : ℕ) (l : List ℕ) (a : Action) (rest : List ℕ) → v < 2 → Bits l
     → fetchReader j marks d v l ≡ got a rest → ActionRead j marks d (v ∷ l) a rest
-unfolding fetchReader actionBits Legal Room
+unfolding fetchReader actionBits Legal Room discardsFull
 fetch-read j marks d zero l a rest p bits e =
     give-got e λ same r.
     subst (λ (y : Action). ActionRead j marks d (0 ∷ l) y rest) same
-    (record { wrote = ap (λ (m : List ℕ). 0 ∷ m) r; bits = subst Bits r bits; legal = tt; room = tt })
+    (record { wrote = ap (λ (m : List ℕ). 0 ∷ m) r; bits = subst Bits r bits; legal = tt; room = tt; full = refl })
 fetch-read j marks d (suc zero) l a rest p bits e =
     bind-got (field 9 9) _ l e λ x l₁ e₁ e.
     then-got (refuseIf 11 (leb (blockCount j) x || not (eqb (diskOf j x) d))) _ l₁ e λ _ l₂ e₂ e.
@@ -130,14 +135,15 @@ pub record RoundRead (j : Job) (k : ℕ) (marks : List Bool) (d : ℕ) (l : List
   pub bits : Bits rest
   pub legal : LegalAll j marks d actions
   pub room : RoomAll j marks d actions
+  pub full : discardsFullAll j marks d actions ≡ true
 
 pub round-read : (j : Job) (k : ℕ) (marks : List Bool) (d : ℕ) (l : List ℕ) (actions : List Action) (rest : List ℕ) → Bits l
     → roundReader j k marks d l ≡ got actions rest → RoundRead j k marks d l actions rest
-unfolding roundReader roundBits LegalAll RoomAll
+unfolding roundReader roundBits LegalAll RoomAll discardsFullAll
 round-read j zero marks d l actions rest bits e =
     give-got e λ same r.
     subst (λ (x : List Action). RoundRead j 0 marks d l x rest) same
-    (record { each = refl; wrote = r; bits = subst Bits r bits; legal = tt; room = tt })
+    (record { each = refl; wrote = r; bits = subst Bits r bits; legal = tt; room = tt; full = refl })
 round-read j (suc k) marks d l actions rest bits e =
     bind-got (actionReader j marks d) _ l e λ a l₁ e₁ e.
     bind-got (roundReader j k (act marks a) (suc d)) _ l₁ e λ more l₂ e₂ e.
@@ -150,6 +156,7 @@ round-read j (suc k) marks d l actions rest bits e =
       bits = subst Bits r (ih .bits);
       legal = (one .legal, ih .legal);
       room = (one .room, ih .room);
+      full = and-true (one .full) (ih .full);
     })
 
 -- Every round has one action for each disk, each legal and with room when it is played.
@@ -163,13 +170,14 @@ pub record RoundsRead (j : Job) (r : ℕ) (s : State) (l : List ℕ) (schedule :
   pub wrote : l ≡ roundsBits schedule ++ rest
   pub bits : Bits rest
   pub allowed : Allowed j s schedule
+  pub full : discardsFullFrom j s schedule ≡ true
 
 pub rounds-read : (j : Job) (r : ℕ) (s : State) (l : List ℕ) (schedule : Schedule) (rest : List ℕ) → Bits l
     → roundsReader j r s l ≡ got schedule rest → RoundsRead j r s l schedule rest
-unfolding roundsReader roundsBits Allowed
+unfolding roundsReader roundsBits Allowed discardsFullFrom
 rounds-read j zero s l schedule rest bits e =
     give-got e λ same q.
-    subst (λ (x : Schedule). RoundsRead j 0 s l x rest) same (record { each = refl; wrote = q; bits = subst Bits q bits; allowed = tt })
+    subst (λ (x : Schedule). RoundsRead j 0 s l x rest) same (record { each = refl; wrote = q; bits = subst Bits q bits; allowed = tt; full = refl })
 rounds-read j (suc r) s l schedule rest bits e =
     bind-got (roundReader j (diskCount j) (s .resident) 0) _ l e λ actions l₁ e₁ e.
     bind-got (roundsReader j r (playRound j s actions)) _ l₁ e λ more l₂ e₂ e.
@@ -181,12 +189,14 @@ rounds-read j (suc r) s l schedule rest bits e =
       wrote = one .wrote ∙ ap (λ (m : List ℕ). roundBits actions ++ m) (ih .wrote ∙ ap (λ (m : List ℕ). roundsBits more ++ m) q) ∙ sym (append-assoc (roundBits actions) (roundsBits more) rest);
       bits = subst Bits q (ih .bits);
       allowed = (one .each, one .legal, one .room, ih .allowed);
+      full = and-true (one .full) (ih .full);
     })
 
 -- What reading a whole sheet gives: the schedule, and the bits after it.
 pub record SheetRead (j : Job) (s : State) (l : List ℕ) (schedule : Schedule) : Type 0 where
   pub few : length schedule ≤ 2048
   pub allowed : Allowed j s schedule
+  pub full : discardsFullFrom j s schedule ≡ true
   pub finished : refCount j ≤ play j s schedule .next
   pub tail : List ℕ
   pub short : length tail < 8
@@ -213,6 +223,7 @@ sheet-read j s l schedule rest bits e =
     subst (SheetRead j s l) same (record {
       few = (let p = ltb-false 2048 r t₂ in let q = g .each in omega (arith, p, q));
       allowed = g .allowed;
+      full = g .full;
       finished = ltb-false (play j s run .next) (refCount j) t₄;
       tail = l₄;
       short = few;

@@ -77,7 +77,7 @@ choose-fails t first second n e = ⊎-elim (λ p. (first, p)) (λ v. (second, v 
 pub choose-number : (t first second : List ℕ) (n : ℕ) → chooseAnswer t first second ≡ refused n → among n checkRefusals ≡ true
 choose-number t first second n e = let f = choose-fails t first second n e in check-number t (f .0) n (f .1)
 
-pub choose-within : (t first second : List ℕ) (n : ℕ) → chooseAnswer t first second ≡ refused n → (1 ≤ n) × (n ≤ 16)
+pub choose-within : (t first second : List ℕ) (n : ℕ) → chooseAnswer t first second ≡ refused n → (1 ≤ n) × (n ≤ 20)
 choose-within t first second n e = let f = choose-fails t first second n e in check-within t (f .0) n (f .1)
 
 -- The sheet handed back, where both pass.

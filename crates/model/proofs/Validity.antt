@@ -1,6 +1,6 @@
 -- The schedules that the check allows are the valid ones: its tests, action by action, say what legality, A1 and A2 say. Assumes nothing.
 use mathlib.Core.Path.{_≡_, sym, ap, _∙_, subst}
-use mathlib.Core.Bool.{Bool}
+use mathlib.Core.Bool.{Bool, cond}
 use mathlib.Core.List.{List, [], _∷_, _++_}
 use Prim.Native.Nat.{ℕ, suc, _+_, _≤_, _<_}
 use native.Mathlib.Nat.{le-antisymm}
@@ -9,17 +9,16 @@ use lib.Dec.{eqb}
 use lib.ListN.{length}
 use borrow.Author.Tests.{eqb-true, eqb-false}
 use Rattle.bits.specs.Bits.{bits}
-use Rattle.bits.specs.Reading.{given}
+use Rattle.bits.specs.Reading.{given, refused}
 use Rattle.bits.proofs.Logic.{by-test}
-use Rattle.bits.proofs.Reading.{readAll-ok, zero-list}
+use Rattle.bits.proofs.Reading.{readAll-if, zero-list}
 use Rattle.model.specs.Job.{Sound, Job, blockCount, refCount, slotsOf}
 use Rattle.model.specs.Playing.{Action, idle, fetch, replace, Schedule, State, start, load, act, actAll, playRound, play}
 use Rattle.model.specs.Sheet.{sheetBits, sheetReader, scheduleRead}
-use Rattle.model.specs.Valid.{Legal, LegalAll, ValidFrom, ValidSheet}
+use Rattle.model.specs.Valid.{Legal, LegalAll, Ready, ValidFrom, discardsFullFrom, LegalSheet, ValidSheet}
 use Rattle.model.proofs.Buffers.{length-act, load-own, load-elsewhere, load-before}
 use Rattle.model.proofs.Playing.{round-plays}
 use Rattle.model.proofs.Rounds.{ready-start, ready-after, round-of}
-use Rattle.model.specs.Valid.{Ready}
 use Rattle.model.proofs.Sheets.{Room, RoomAll, Allowed, SheetRead}
 use Rattle.model.proofs.Written.{sheet-written}
 
@@ -98,17 +97,22 @@ valid-finished j s (actions ∷ more) v =
 
 pub read-valid : (j : Job) → Sound j → (s : List ℕ) (schedule : Schedule) → SheetRead j (start j) (bits s) schedule → ValidSheet j s schedule
 read-valid j sound s schedule r = record {
-  fewRounds = r .few;
-  valid = allowed-valid j (start j) schedule (ready-start j (sound .fewBlocks)) (r .allowed) (r .finished);
-  closingBits = length (r .tail);
-  fewClosing = r .short;
-  written = r .wrote ∙ ap (λ (l : List ℕ). sheetBits schedule ++ l) (zero-list (r .tail) (r .zeros));
+  legal = record {
+    fewRounds = r .few;
+    valid = allowed-valid j (start j) schedule (ready-start j (sound .fewBlocks)) (r .allowed) (r .finished);
+    closingBits = length (r .tail);
+    fewClosing = r .short;
+    written = r .wrote ∙ ap (λ (l : List ℕ). sheetBits schedule ++ l) (zero-list (r .tail) (r .zeros));
+  };
+  full = r .full;
 }
 
-pub valid-read : (j : Job) → Sound j → (s : List ℕ) (schedule : Schedule) → ValidSheet j s schedule → scheduleRead j s ≡ given schedule
+-- What is read of a sheet of document 01.
+pub legal-read : (j : Job) → Sound j → (s : List ℕ) (schedule : Schedule) → LegalSheet j s schedule
+    → scheduleRead j s ≡ cond (discardsFullFrom j (start j) schedule) (given schedule) (refused 20)
 unfolding scheduleRead
-valid-read j sound s schedule v =
+legal-read j sound s schedule v =
     let finished = valid-finished j (start j) schedule (v .valid) in
-    readAll-ok (sheetReader j (start j)) s (ap (sheetReader j (start j)) (v .written)
+    readAll-if (sheetReader j (start j)) s (discardsFullFrom j (start j) schedule) schedule [] 20 (ap (sheetReader j (start j)) (v .written)
     ∙ sheet-written j (sound .fewBlocks) (start j) schedule (v .closingBits) (v .fewRounds) (v .fewClosing)
     (valid-allowed j (start j) schedule (ready-start j (sound .fewBlocks)) (v .valid)) (omega (arith, finished)))

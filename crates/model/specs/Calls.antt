@@ -273,8 +273,9 @@ sheetAfter a first second =
 abbrev pub ticketNumbers : List ℕ
 ticketNumbers = each (λ n. n) 1 8
 
+-- (L3: "Turned away: 20")
 abbrev pub sheetNumbers : List ℕ
-sheetNumbers = each (λ n. n) 9 8
+sheetNumbers = each (λ n. n) 9 8 ++ 20 ∷ []
 
 abbrev pub roomNumbers : List ℕ
 roomNumbers = 17 ∷ 18 ∷ []

@@ -1,5 +1,6 @@
 -- A run sheet: document 01, "Ticket and sheet", how a schedule is written, and how a sheet is read and played for a job, with the numbers 9 to
--- 16 of "Numbers of a refused call", each tested as soon as the fields that it speaks of are read. Assumes nothing.
+-- 16 of "Numbers of a refused call" and 20 of document 02's request L3, each tested as soon as the fields that it speaks of are read. Assumes
+-- nothing.
 use mathlib.Core.Bool.{Bool, not, _&&_, _||_}
 use mathlib.Core.List.{List, [], _∷_, _++_}
 use Prim.Native.Nat.{ℕ, zero, suc}
@@ -47,12 +48,14 @@ abbrev pub holds : Job → List Bool → ℕ → ℕ → Bool
 holds j marks d b = ltb b (blockCount j) && eqb (diskOf j b) d && isResident marks b
 
 -- What follows the fetched block x: "0 (nothing discarded)", where "13. Nothing is discarded though every slot is taken" is tested, or "1 and a
--- 9-bit discarded block", where "14. The discarded block is not in that disk's buffer" is.
+-- 9-bit discarded block", where "14. The discarded block is not in that disk's buffer" is. L3: "20, a discard though a slot is empty, tested once
+-- the discard bit is read as 1 and before the discarded block's field".
 unfoldable pub discardReader : Job → List Bool → ℕ → ℕ → ℕ → Reader Action
 discardReader j marks d x zero = do
   refuseIf 13 (leb (slotsOf j d) (load j marks d))
   give (fetch x)
 discardReader j marks d x (suc k) = do
+  refuseIf 20 (ltb (load j marks d) (slotsOf j d))
   z ← sheetField 9
   refuseIf 14 (not (holds j marks d z))
   give (replace x z)

@@ -1,15 +1,16 @@
 -- Valid tickets and sheets, said without a reader and without an order of tests: which jobs and schedules are allowed, and then how they are
 -- written. Document 01, "Playing a round": "A sheet is valid if no action is refused below and all N references are consumed by its last round
--- (axioms A1 and A2 of document 000)." `Promises` proves that these are the tickets that are accepted and the sheets that the check passes.
--- Assumes nothing.
+-- (axioms A1 and A2 of document 000)." Request L3 of document 02 turns away more: a discard though a slot is empty. `Promises` proves that these are
+-- the tickets that are accepted and the sheets that the check passes. Assumes nothing.
 use mathlib.Core.Path.{_≡_}
-use mathlib.Core.Bool.{Bool, true, false}
+use mathlib.Core.Bool.{Bool, true, false, _&&_}
 use mathlib.Core.List.{List, [], _∷_, _++_}
 use Prim.Native.Nat.{ℕ, suc, _≤_, _<_}
+use lib.Dec.{leb}
 use lib.ListN.{length, replicate}
 use Rattle.bits.specs.Bits.{bits}
 use Rattle.model.specs.Job.{Job, Sound, diskCount, blockCount, refCount, slotsOf, diskOf, refAt}
-use Rattle.model.specs.Playing.{Action, idle, fetch, replace, Schedule, State, start, isResident, load, act, actAll}
+use Rattle.model.specs.Playing.{Action, idle, fetch, replace, Schedule, State, start, isResident, load, act, actAll, playRound}
 use Rattle.model.specs.Ticket.{ticketBits}
 use Rattle.model.specs.Sheet.{sheetBits}
 
@@ -58,6 +59,25 @@ unfoldable pub ValidFrom : Job → State → Schedule → Type 0
 ValidFrom j s [] = s .next ≡ refCount j
 ValidFrom j s (actions ∷ more) = (t : State) × Round j s actions t × ValidFrom j t more
 
+-- L3, "No throwing out beside an empty slot": an action of disk d discards a block only where every slot of the disk is taken.
+unfoldable pub discardsFull : Job → List Bool → ℕ → Action → Bool
+unfolding load
+discardsFull j marks d idle = true
+discardsFull j marks d (fetch x) = true
+discardsFull j marks d (replace x z) = leb (slotsOf j d) (load j marks d)
+
+-- So do the actions of the disks from d on, each when it is played,
+unfoldable pub discardsFullAll : Job → List Bool → ℕ → List Action → Bool
+unfolding discardsFull act
+discardsFullAll j marks d [] = true
+discardsFullAll j marks d (a ∷ more) = discardsFull j marks d a && discardsFullAll j (act marks a) (suc d) more
+
+-- and those of all rounds of a schedule that is played from the state s.
+unfoldable pub discardsFullFrom : Job → State → Schedule → Bool
+unfolding discardsFullAll playRound
+discardsFullFrom j s [] = true
+discardsFullFrom j s (actions ∷ more) = discardsFullAll j (s .resident) 0 actions && discardsFullFrom j (playRound j s actions) more
+
 -- A ticket of a job: a sound job's fields in order, then fewer than eight zero bits and no byte after.
 pub record ValidTicket (ticket : List ℕ) (j : Job) : Type 0 where
   pub sound : Sound j
@@ -65,10 +85,15 @@ pub record ValidTicket (ticket : List ℕ) (j : Job) : Type 0 where
   pub fewClosing : closingBits < 8
   pub written : bits ticket ≡ ticketBits j ++ replicate closingBits 0
 
--- A sheet of a job: at most 2,048 rounds of a valid schedule, written as bits, then fewer than eight zero bits and no byte after.
-pub record ValidSheet (j : Job) (sheet : List ℕ) (schedule : Schedule) : Type 0 where
+-- Document 01's sheet of a job: at most 2,048 rounds of a valid schedule, written as bits, then fewer than eight zero bits and no byte after.
+pub record LegalSheet (j : Job) (sheet : List ℕ) (schedule : Schedule) : Type 0 where
   pub fewRounds : length schedule ≤ 2048
   pub valid : ValidFrom j (start j) schedule
   pub closingBits : ℕ
   pub fewClosing : closingBits < 8
   pub written : bits sheet ≡ sheetBits schedule ++ replicate closingBits 0
+
+-- A valid sheet: since L3, "Fewer sheets pass", one of document 01's that throws nothing out beside an empty slot.
+pub record ValidSheet (j : Job) (sheet : List ℕ) (schedule : Schedule) : Type 0 where
+  pub legal : LegalSheet j sheet schedule
+  pub full : discardsFullFrom j (start j) schedule ≡ true

@@ -3,6 +3,7 @@ use mathlib.Core.Path.{_≡_, refl, sym, ap, _∙_}
 use mathlib.Core.List.{List, _∷_}
 use mathlib.Core.Option.{some}
 use Prim.Native.Nat.{ℕ, _≤_}
+use native.Mathlib.Omega.{arith}
 use lib.ListN.{getD}
 use mir.Val.{Fits as Machine}
 use mir.Syntax.{w32}
@@ -14,7 +15,7 @@ use Rattle.model.specs.Plans.{each}
 use Rattle.model.specs.Calls.{countsOf, ofTwo, isShort, isSparing, chosen, checkAnswer, planAnswer, plannedOf, returned, ChosenSheet, chooseAnswer, returnedChoice, numberOf, halves, countsNumbers, planningNumbers, choiceNumbers, countsWritten}
 use Rattle.model.specs.Calls.{Planned as PlanGiven}
 use Rattle.model.specs.Calls.{Mark as MarkGiven}
-use Rattle.model.proofs.Numbers.{plan-within}
+use Rattle.model.proofs.Numbers.{check-within, plan-within}
 use Rattle.model.proofs.TwoSheets.{choose-within}
 use Rattle.model.proofs.Bytes
 use Rattle.checking.specs.Checking.{checkedOf}
@@ -22,7 +23,7 @@ use Rattle.checking.specs.declared.Checked.{Checked}
 use Rattle.returning.specs.Returning.{markAs, plannedAs, markNumber, ofWhich, chosenAs}
 use Rattle.returning.specs.declared.Planned.{Planned}
 use Rattle.returning.specs.declared.Chosen.{Chosen}
-use Rattle.planner.proofs.Laws.{refused-by, given-by, number-small, sixteen, check-few, check-is, check-passing}
+use Rattle.planner.proofs.Laws.{refused-by, given-by, number-small, check-is, check-passing}
 use Rattle.returning.proofs.TwoSheets.{two-chosen}
 use Rattle.returning.proofs.Laying.{laid-two, laid-twenty}
 
@@ -48,7 +49,7 @@ module _ {A : Type 0} (numbers : A → List ℕ) (a : Answer A) (number : ℕ) (
 
 module _ (t s : List ℕ) (r : Checked) (e : r ≡ checkedOf (checkAnswer t s)) where
   pub check-small : Machine w32 (r .number)
-  check-small = number-small (checkAnswer t s) (check-few t s) (r .number) (check-is t s r e)
+  check-small = number-small (checkAnswer t s) (check-within t s) (r .number) (check-is t s r e)
 
   pub check-stopped : (lent : List ℕ) → (r .number ≡ 0 → ⊥) → (r .number ≡ numberOf (checkAnswer t s)) × (lent ≡ countsWritten countsNumbers (checkAnswer t s) lent)
   check-stopped = stopped countsNumbers (checkAnswer t s) (r .number) (check-is t s r e)
@@ -92,8 +93,11 @@ module _ (t : List ℕ) (a b : ℕ) (r : Planned) (e : r ≡ plannedAs (returned
       go (given p) = refl
       go (refused n) = refl
 
+  few : (n : ℕ) → planAnswer t a b ≡ refused n → (1 ≤ n) × (n ≤ 20)
+  few n q = let w = plan-within t a b n q in (w .0, omega (arith, w .1))
+
   pub plan-small : Machine w32 (r .number)
-  plan-small = number-small (planAnswer t a b) (plan-within t a b) (r .number) plan-is
+  plan-small = number-small (planAnswer t a b) few (r .number) plan-is
 
   pub plan-stopped : (lent : List ℕ) → (r .number ≡ 0 → ⊥) → (r .number ≡ numberOf (planAnswer t a b)) × (lent ≡ countsWritten planningNumbers (planAnswer t a b) lent)
   plan-stopped = stopped planningNumbers (planAnswer t a b) (r .number) plan-is
@@ -102,7 +106,7 @@ module _ (t : List ℕ) (a b : ℕ) (r : Planned) (e : r ≡ plannedAs (returned
       → l₃ ≡ laidAt 4 (halves (numbersOf (r .short .rounds) (r .short .fetches))) l₂ → l₄ ≡ laidAt 22 (halves (numbersOf (r .sparing .rounds) (r .sparing .fetches))) l₃
       → (0 ≡ numberOf (planAnswer t a b)) × (l₄ ≡ countsWritten planningNumbers (planAnswer t a b) lent)
   plan-passed lent l₁ l₂ l₃ l₄ m z k f g h w =
-      let p = given-by (planAnswer t a b) (plan-within t a b) (r .number) plan-is z in
+      let p = given-by (planAnswer t a b) few (r .number) plan-is z in
       let q = Bytes.planned t a b (p .0) (p .1) in
       let same = e ∙ ap (λ (x : Answer PlanGiven). plannedAs (returned x)) (p .1 ∙ ap given (sym (q .2))) in
       let twenty : l₄ ≡ twentyLaid (markNumber (r .mark)) r lent = rw (w, h, g, f, k) refl in
@@ -123,11 +127,8 @@ module _ (t first second : List ℕ) (r : Chosen) (e : r ≡ chosenAs (returnedC
       go (given c) = refl
       go (refused n) = refl
 
-  few : (n : ℕ) → chooseAnswer t first second ≡ refused n → (1 ≤ n) × (n ≤ 18)
-  few n q = sixteen n (choose-within t first second n q)
-
   pub choice-small : Machine w32 (r .number)
-  choice-small = number-small (chooseAnswer t first second) few (r .number) choice-is
+  choice-small = number-small (chooseAnswer t first second) (choose-within t first second) (r .number) choice-is
 
   pub choice-stopped : (lent : List ℕ) → (r .number ≡ 0 → ⊥)
       → (r .number ≡ numberOf (chooseAnswer t first second)) × (lent ≡ countsWritten choiceNumbers (chooseAnswer t first second) lent)
@@ -137,7 +138,7 @@ module _ (t first second : List ℕ) (r : Chosen) (e : r ≡ chosenAs (returnedC
       → (0 ≡ numberOf (chooseAnswer t first second)) × (l₂ ≡ countsWritten choiceNumbers (chooseAnswer t first second) lent)
   unfolding chosenAs returnedChoice
   choice-passed lent l₁ l₂ m z k f g =
-      let p = given-by (chooseAnswer t first second) few (r .number) choice-is z in
+      let p = given-by (chooseAnswer t first second) (choose-within t first second) (r .number) choice-is z in
       let c = p .0 in
       let same = e ∙ ap (λ (x : Answer ChosenSheet). chosenAs (returnedChoice x)) (p .1) in
       let two : l₂ ≡ laidAt 2 (be16 (r .length)) (laidAt 0 (be16 (ofWhich (r .which) 0 1)) lent) = rw (g, f, k) refl in

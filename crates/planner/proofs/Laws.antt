@@ -29,7 +29,7 @@ refused-by (given v) number e f = absurd (f e)
 refused-by (refused n) number e f = ap refused (sym e)
 
 -- and where it is 0 it gives something, since no refusal has the number 0. Each number is small.
-module _ {A : Type 0} (a : Answer A) (few : (n : ℕ) → a ≡ refused n → (1 ≤ n) × (n ≤ 18)) (number : ℕ) (e : number ≡ numberOf a) where
+module _ {A : Type 0} (a : Answer A) (few : (n : ℕ) → a ≡ refused n → (1 ≤ n) × (n ≤ 20)) (number : ℕ) (e : number ≡ numberOf a) where
   pub given-by : number ≡ 0 → (v : A) × (a ≡ given v)
   given-by z = go a refl e
     where
@@ -44,20 +44,13 @@ module _ {A : Type 0} (a : Answer A) (few : (n : ℕ) → a ≡ refused n → (1
       go (given v) q h = omega (arith, h)
       go (refused n) q h = let b = few n q .1 in omega (arith, b, h)
 
--- the check's numbers are up to 16
-pub sixteen : (n : ℕ) → (1 ≤ n) × (n ≤ 16) → (1 ≤ n) × (n ≤ 18)
-sixteen n b = (b .0, omega (arith, b .1))
-
 -- The number of what the check returns is the answer's.
-pub check-few : (t s : List ℕ) (n : ℕ) → checkAnswer t s ≡ refused n → (1 ≤ n) × (n ≤ 18)
-check-few t s n q = sixteen n (check-within t s n q)
-
 pub check-is : (t s : List ℕ) (r : Checked) → r ≡ checkedOf (checkAnswer t s) → r .number ≡ numberOf (checkAnswer t s)
 unfolding checkedOf
 check-is t s r e = ap (λ (x : Checked). x .number) e
 
 pub check-passing : (t s : List ℕ) (r : Checked) → r ≡ checkedOf (checkAnswer t s) → r .number ≡ 0 → (c : Counts) × (checkAnswer t s ≡ given c)
-check-passing t s r e z = given-by (checkAnswer t s) (check-few t s) (r .number) (check-is t s r e) z
+check-passing t s r e z = given-by (checkAnswer t s) (check-within t s) (r .number) (check-is t s r e) z
 
 -- Demands 2 and 3 hold of it.
 check-valid : (t s : List ℕ) (j : Job) (schedule : Schedule) → ticketOf t ≡ given j → ValidSheet j s schedule → checkedOf (checkAnswer t s) ≡ checkedOf (given (countsOf schedule))

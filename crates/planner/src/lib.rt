@@ -1,5 +1,5 @@
 // The public calls: planning and the part with the sheet to run, planning with a page, the check, the choice between two sheets and the sheet chosen;
-// and planning, check and choice from C. Document 01, its calls; document 02, L1 and L2.
+// and planning, check and choice from C. Document 01, its calls; document 02, L1 to L3.
 use checking::Checked;
 use returning::Chosen;
 use returning::Planned;
