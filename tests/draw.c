@@ -207,7 +207,8 @@ static unsigned some_victim(struct chance *c, const struct run *run, unsigned d)
     return victim;
 }
 
-/* An allowed action, but for discards beside an empty slot. A wise run fetches what is due first and discards nothing due before it. */
+/* An allowed action, but for discards beside an empty slot. A wise run fetches what is due first
+ * and discards nothing due before it. */
 static struct ref_action draw_action(struct chance *c, const struct run *run, unsigned d,
                                      bool demanded)
 {

@@ -187,6 +187,13 @@ mutant '11 and 12 tested after the whole action' \
 mutant 'one block too many held' 's/held\[d\] < job->slots\[d\] \? 0/held[d] <= job->slots[d] ? 0/'
 mutant 'a block of another disk discarded' 's/job->disk\[v\] != d \|\| !s/!s/'
 mutant 'the fetched block itself discarded' 's/\|\| !s->resident\[v\]\)/|| (!s->resident[v] \&\& v != a->fetch))/'
+mutant '14 of the last action tested after 15' \
+    's/^static unsigned check_action/static unsigned late;\n\n&/
+     s/^        return 14;/        { if (8 * r->len - r->at < 8) { late = 14; return 0; } return 14; }/
+     s/^    unsigned next_read = 0;/    unsigned next_read = late = 0;/
+     s/return closes\(r\) \? 0 : 16/return late ? late : closes(r) ? 0 : 16/'
+mutant '14 tested before 9 of the discarded block, with zeros for the bits that are missing' \
+    '/return 20;/,/return 14;/s/^        return 9;/        { unsigned left = (unsigned)(8 * r->len - r->at); field(r, left, \&v); v = left > 0 ? v << (9 - left) : 0;\n        return v < job->blocks \&\& job->disk[v] == d \&\& s->resident[v] ? 9 : 14; }/'
 mutant 'a discard beside an empty slot passes' 's/return 20;/;/'
 mutant '14 for 20' 's/return 20;/return 14;/'
 mutant '20 tested after 9 of the discarded block' "$no_20

@@ -2,16 +2,18 @@
 -- of a refusal are tested, which no theorem sees, and for the calls of document 02. "Cases marked P are proved together as one table over the
 -- definitions": each row ends in the proof that its call gives what it says, by computation. Assumes nothing.
 use mathlib.Core.Path.{_≡_, refl}
+use mathlib.Core.Bool.{true, false}
 use mathlib.Core.List.{List, [], _∷_, _++_, map}
 use Prim.Native.Nat.{ℕ, zero, suc, _/_, _%_, _^_}
 use Prim.Native.String.{String}
 use Rattle.bits.specs.Reading.{Answer, given, refused, bind, _>>=_, _>>_, give, field, refuseIf, many, isClosed, closing, answer, readAll}
 use Rattle.model.specs.Job.{Job}
 use Rattle.model.specs.Ticket.{slotsField, diskField, refField, ticketReader, ticketOf}
-use Rattle.model.specs.Playing.{noneResident, load, play}
+use Rattle.model.specs.Playing.{fetch, replace, Schedule, noneResident, start, load, play}
 use Rattle.model.specs.Text.{text}
 use Rattle.model.specs.Page.{ended}
 use Rattle.model.specs.Sheet.{discardReader, fetchReader, actionReader, roundReader, roundsReader, sheetReader, scheduleRead}
+use Rattle.model.specs.Valid.{discardsFullFrom}
 use Rattle.model.specs.Calls.{Counts, Which, isFirst, isSecond, Mark, isShort, isSparing, Planned, planAnswer, pageAnswer, checkAnswer, ChosenSheet, chooseAnswer, countsNumbers, planningNumbers, choiceNumbers, countsWritten}
 
 -- The k bytes whose hexadecimal digits are those of v: `hex 2 0x0018` is 00 18.
@@ -108,6 +110,21 @@ ticketG = hex 32 0x2060c080002490150000404040180002050301c0404028180001010100600
 -- one disk, two slots, two blocks, string 0 1
 abbrev pub ticketTwo : List ℕ
 ticketTwo = hex 8 0x1040100004000080
+
+-- that job, and a schedule in which block 1 replaces block 0 beside the empty slot; with one slot it replaces it in the full one
+abbrev pub jobTwo : Job
+jobTwo = record { slots = 2 ∷ []; blockDisks = 0 ∷ 0 ∷ []; refs = 0 ∷ 1 ∷ [] }
+
+abbrev pub replacing : Schedule
+replacing = (fetch 0 ∷ []) ∷ (replace 1 0 ∷ []) ∷ []
+
+pub beside-empty : discardsFullFrom jobTwo (start jobTwo) replacing ≡ false
+unfolding discardsFullFrom start noneResident load
+beside-empty = refl
+
+pub in-full : (let j : Job = record { slots = 1 ∷ []; blockDisks = 0 ∷ 0 ∷ []; refs = 0 ∷ 1 ∷ [] } in discardsFullFrom j (start j) replacing) ≡ true
+unfolding discardsFullFrom start noneResident load
+in-full = refl
 
 -- one disk, one slot, 101 blocks, string 100 10 100 10 .. of ten references
 abbrev ticketTen : List ℕ
@@ -261,13 +278,14 @@ table =
     row (check (hex 6 0x102008001001) (hex 2 0x8010)) (number 8) refl ∷
     -- The order of a sheet's refusals. 9 comes before the value of the field in which the sheet ends. With zeros for the bits that are missing, it
     -- would be 0 and 4,080 rounds; fetches of block 448 of 1, with D's ticket of block 0 by disk 1, and of block 0 again; with C's ticket nothing
-    -- discarded though the one slot is taken; with ones, a discard though it is empty.
+    -- discarded though the one slot is taken, and a discard of block 0, which is not in it; with A's ticket and ones, a discard though it is empty.
     row (check ticketA []) (number 9) refl ∷
     row (check ticketA (hex 1 0xff)) (number 9) refl ∷
     row (check ticketA (hex 2 0x001f)) (number 9) refl ∷
     row (check ticketD (hex 2 0x0014)) (number 9) refl ∷
     row (check ticketA (hex 3 0x002801)) (number 9) refl ∷
     row (check ticketC (hex 5 0x0098000201)) (number 9) refl ∷
+    row (check ticketC (hex 5 0x0028050040)) (number 9) refl ∷
     row (check ticketA (hex 3 0x003200)) (number 9) refl ∷
     -- R comes before the end inside the rounds: 2,049 rounds, before round 5, and before the block that round 1 fetches.
     row (check ticketA (hex 2 0x8010)) (number 10) refl ∷
@@ -283,16 +301,16 @@ table =
     -- and with D's, before disk 1's action. Block 1, which is not in the buffer though its one slot is taken: likewise.
     row (check ticketC (hex 5 0x0098000402)) (number 13) refl ∷
     row (check ticketD (hex 7 0x00380080600400)) (number 13) refl ∷
-    row (check ticketC (hex 6 0x00980100c020)) (number 14) refl ∷
+    row (check ticketC (hex 6 0x008040080601)) (number 14) refl ∷
     row (check ticketD (hex 7 0x00320040480601)) (number 14) refl ∷
     -- 11 comes before 12: with D's ticket disk 1 fetches block 0 of disk 0, which is in the buffer there. 12 comes before 13: block 0 is fetched
     -- twice, and nothing is discarded though the one slot is taken.
     row (check ticketD (hex 5 0x0018010000)) (number 11) refl ∷
     row (check ticketA (hex 5 0x0028010000)) (number 12) refl ∷
     -- 13 and 14 come before 15, with references left after the last action: with D's ticket disk 1 fetches block 3 beside block 2 in its one slot;
-    -- with C's ticket block 1 is discarded, which is not in the one slot.
+    -- it does so again, and discards block 3, which is not in it.
     row (check ticketD (hex 5 0x0024044060)) (number 13) refl ∷
-    row (check ticketC (hex 6 0x00280100c020)) (number 14) refl ∷
+    row (check ticketD (hex 6 0x002404407018)) (number 14) refl ∷
     -- 9 comes before 15, with the reference left: the sheet ends where round 5 is due, and inside the block that round 2 fetches.
     row (check ticketA (hex 2 0x0050)) (number 9) refl ∷
     row (check ticketA (hex 2 0x0024)) (number 9) refl ∷
@@ -309,15 +327,16 @@ table =
     row (check ticketD (hex 7 0x00380101201808)) (number 14) refl ∷
     row (check ticketD (hex 7 0x00380101201824)) (number 14) refl ∷
     -- Request L3: "20, a discard though a slot is empty". Two slots: block 1 replaces block 0 beside the empty one, in a sheet that document 01 lets
-    -- pass (`LegalSheet`, specs/Valid.antt). With F's ticket disk 0 discards from its one full slot, and disk 1 from two slots of which one is empty.
+    -- pass (`LegalSheet`, specs/Valid.antt). With F's ticket disk 0 discards from its one full slot, and disk 1 from two slots of which one is empty;
+    -- with G's two of three are.
     row (check ticketTwo (hex 6 0x00280100c000)) (number 20) refl ∷
     row (check ticketF (hex 10 0x00280101201802038080)) (number 20) refl ∷
-    -- "tested once the discard bit is read as 1 and before the discarded block's field (so before 9 of that field, and before 14)": the sheet ends
-    -- inside the field, and block 0 is discarded from the empty buffer; where the slot is full, 9 and (above) 14.
+    row (check ticketG (hex 6 0x002800806000)) (number 20) refl ∷
+    -- "tested once the discard bit is read as 1 and before the discarded block's field", so before 9 of that field and before 14: the sheet ends inside
+    -- the field, and block 0 is discarded from the empty buffer. Where the one slot is taken, 9 and 14 stand above.
     row (check ticketA (hex 3 0x001802)) (number 20) refl ∷
     row (check ticketA (hex 4 0x00180200)) (number 20) refl ∷
-    row (check ticketC (hex 5 0x00280100c0)) (number 9) refl ∷
-    -- 11 and 12 come before it: block 5 of 2, and block 0 again, which is resident beside an empty slot.
+    -- 11 and 12 come before it, with the discard bit 1: block 5 of 2, and block 0 again, which is resident beside an empty slot.
     row (check ticketTwo (hex 3 0x001816)) (number 11) refl ∷
     row (check ticketTwo (hex 5 0x0028010040)) (number 12) refl ∷
     -- It comes before the end inside the next action, and before 15 and 16: the next round, and with D's ticket disk 1's action; the references of C

@@ -261,22 +261,23 @@ pub page-fits : (t : List ℕ) (j : Job) (room₁ room₂ room₃ : ℕ) → tic
 page-fits = PageCall.page-fits
 
 -- 7. Request L3, "No throwing out beside an empty slot. .. The check becomes stricter." "Fewer sheets pass": every sheet that passes is a sheet that
--- document 01 lets pass (`LegalSheet`, specs/Valid.antt), with the same counts;
-pub passes-before : (t s : List ℕ) (c : Counts) → checkAnswer t s ≡ given c
+-- document 01 lets pass, with the same counts. Such a sheet is a `LegalSheet` (specs/Valid.antt): word for word the sheets of which `passes-exactly`
+-- was proved before this request.
+pub pass-is-legal : (t s : List ℕ) (c : Counts) → checkAnswer t s ≡ given c
     → (j : Job) × (schedule : Schedule) × (ticketOf t ≡ given j) × LegalSheet j s schedule × (countsOf schedule ≡ c)
-passes-before = Stricter.passes-legal
+pass-is-legal = Stricter.pass-is-legal
 
--- of those sheets the check passes the ones that throw nothing out beside an empty slot, and refuses all others with 20;
-pub passed-before : (t s : List ℕ) (j : Job) (schedule : Schedule) → ticketOf t ≡ given j → LegalSheet j s schedule
+-- Of those sheets the check passes the ones that throw nothing out beside an empty slot, and refuses all others with 20;
+pub legal-answer : (t s : List ℕ) (j : Job) (schedule : Schedule) → ticketOf t ≡ given j → LegalSheet j s schedule
     → checkAnswer t s ≡ cond (discardsFullFrom j (start j) schedule) (given (countsOf schedule)) (refused 20)
-passed-before = Bytes.legal-answer
+legal-answer = Bytes.legal-answer
 
 -- and there are others: the check refuses some sheet that document 01 lets pass.
-pub some-refused : (t : List ℕ) × (s : List ℕ) × (j : Job) × (schedule : Schedule) × (ticketOf t ≡ given j) × LegalSheet j s schedule × (checkAnswer t s ≡ refused 20)
-some-refused = Stricter.refused-legal
+pub legal-refused : (t : List ℕ) × (s : List ℕ) × (j : Job) × (schedule : Schedule) × (ticketOf t ≡ given j) × LegalSheet j s schedule × (checkAnswer t s ≡ refused 20)
+legal-refused = Stricter.legal-refused
 
 -- "and planned sheets still do" (`short-passes`, `sparing-passes`), "so nobody gains a round by the change": no sheet that document 01 lets pass beats
 -- the plans either.
-pub unbeaten-before : (t s : List ℕ) (j : Job) (schedule : Schedule) → ticketOf t ≡ given j → LegalSheet j s schedule
+pub legal-unbeaten : (t s : List ℕ) (j : Job) (schedule : Schedule) → ticketOf t ≡ given j → LegalSheet j s schedule
     → (shortCounts j .rounds ≤ countsOf schedule .rounds) × ((d : ℕ) → fetchesOn (sparingCounts j) d ≤ fetchesOn (countsOf schedule) d)
-unbeaten-before = Bytes.legal-unbeaten
+legal-unbeaten = Bytes.legal-unbeaten

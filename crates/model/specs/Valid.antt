@@ -85,7 +85,8 @@ pub record ValidTicket (ticket : List ℕ) (j : Job) : Type 0 where
   pub fewClosing : closingBits < 8
   pub written : bits ticket ≡ ticketBits j ++ replicate closingBits 0
 
--- Document 01's sheet of a job: at most 2,048 rounds of a valid schedule, written as bits, then fewer than eight zero bits and no byte after.
+-- A sheet of a job as document 01 has it: at most 2,048 rounds of such a schedule, written as bits, then fewer than eight zero bits and no byte
+-- after.
 pub record LegalSheet (j : Job) (sheet : List ℕ) (schedule : Schedule) : Type 0 where
   pub fewRounds : length schedule ≤ 2048
   pub valid : ValidFrom j (start j) schedule
@@ -93,7 +94,7 @@ pub record LegalSheet (j : Job) (sheet : List ℕ) (schedule : Schedule) : Type 
   pub fewClosing : closingBits < 8
   pub written : bits sheet ≡ sheetBits schedule ++ replicate closingBits 0
 
--- A valid sheet: since L3, "Fewer sheets pass", one of document 01's that throws nothing out beside an empty slot.
+-- A sheet of a valid schedule: since L3, "Fewer sheets pass", one that also throws nothing out beside an empty slot.
 pub record ValidSheet (j : Job) (sheet : List ℕ) (schedule : Schedule) : Type 0 where
   pub legal : LegalSheet j sheet schedule
   pub full : discardsFullFrom j (start j) schedule ≡ true
