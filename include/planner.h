@@ -1,7 +1,7 @@
 /* planner.h - plans for parallel disks that no schedule beats
  *
  * A job lists the blocks it will read, in order. Up to eight disks, each with a few buffer slots of its own, fetch them: in one round every disk
- * may fetch one block, discarding another if its slots are full, and only then; then the job is read on until a block is missing.
+ * may fetch one block, discarding another exactly if its slots are full; then the job is read on until a block is missing.
  *
  *   planner_plan    makes two plans of a job: the short one (P-MIN), which takes the fewest rounds, and the sparing one (P-CON), which takes the
  *                   fewest fetches on every disk; and says which one to run: the sparing one exactly when both take equally many rounds.

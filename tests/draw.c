@@ -152,7 +152,7 @@ struct run {
     bool in[REF_BLOCKS];
     unsigned held[REF_DISKS], next_read;
     unsigned idle;             /* one action in so many is idle, where allowed */
-    unsigned beside;           /* one fetch in so many discards beside an empty slot: 20 */
+    unsigned beside_empty;     /* one fetch in so many discards beside an empty slot: 20 */
     unsigned wise;             /* the discarded block is the last due of so many */
 };
 
@@ -220,7 +220,7 @@ static struct ref_action draw_action(struct chance *c, const struct run *run, un
                              ? due_block(c, run, d) : some_block(c, run, d, false));
     if (a.fetch == REF_NONE)
         return a;
-    if (run->held[d] == run->job->slots[d] || (run->held[d] > 0 && one_in(c, run->beside)))
+    if (run->held[d] == run->job->slots[d] || (run->held[d] > 0 && one_in(c, run->beside_empty)))
         a.discard = (uint16_t)some_victim(c, run, d);
     if (a.discard != REF_NONE && !demanded && run->wise > 1 &&
         due_in(run, a.discard) < due_in(run, a.fetch))
@@ -255,7 +255,7 @@ unsigned draw_schedule(struct chance *c, const struct ref_job *job, enum ending 
     unsigned rounds = 0, more = 0, lazy = between(c, 2, 6);
 
     run.wise = one_in(c, 2) ? 1 : between(c, 2, 4);
-    run.beside = one_in(c, 5) ? between(c, 1, 100) : SELDOM;
+    run.beside_empty = one_in(c, 5) ? between(c, 1, 100) : SELDOM;
     run.idle = one_in(c, run.wise > 1 ? 2 : 5) ? SELDOM : between(c, 1, 6);
     while (run.next_read < job->references) {
         bool must = REF_ROUNDS - rounds <= job->references - run.next_read;

@@ -12,7 +12,8 @@ void draw_job(struct chance *c, struct ref_job *job);
  * are to the last disk, which has one slot, and no two in a row are to the same block. */
 void draw_longest(struct chance *c, struct ref_job *job);
 
-/* A schedule of allowed actions; gives its rounds, at most REF_ROUNDS.
+/* A schedule of allowed actions, but that one in five may discard beside an empty slot, which the
+ * check refuses; gives its rounds, at most REF_ROUNDS.
  * FINISHED ends with the round that consumes the last reference, LATE has rounds after it,
  * UNFINISHED leaves references (unless there are none). */
 enum ending { FINISHED, LATE, UNFINISHED };

@@ -99,7 +99,7 @@ pub then-stop : {A B : Type 0} (m : Reader A) (r : Reader B) (l : List ℕ) {n :
 unfolding _>>_ bind
 then-stop m r l e = ap (λ (x : Read _). bind x (λ _. r)) e
 
--- A step whose first part gives a value where a test holds, and stops where not, does the same.
+-- Where the first part of a step gives a value if a test holds, and stops if not, the step gives what its second part gives, or stops likewise.
 pub bind-if : {A B : Type 0} (m : Reader A) (f : A → Reader B) (l : List ℕ) (t : Bool) (a : A) (after : List ℕ) (n : ℕ) {x : Read B}
     → m l ≡ cond t (got a after) (stop n) → f a after ≡ x → (m >>= f) l ≡ cond t x (stop n)
 unfolding _>>=_ bind

@@ -193,7 +193,7 @@ linesTen =
 
 -- Where two tests that follow each other can both refuse, a row says which one does. These cannot: 1 inside the last reference and 8; 10 and the end
 -- inside the first fetch bit, since a sheet has whole bytes; 11 for a block of B or more and 12, since no such block is ever in a buffer; 13
--- and 20 or 14, since the discard bit selects one of them.
+-- and either of 20 and 14, since the discard bit leads to 13 or to those two.
 pub table : List Case
 unfolding hex outcome text ended _>>=_ _>>_ bind give field refuseIf many isClosed closing answer readAll slotsField diskField refField ticketReader ticketOf discardReader fetchReader actionReader roundReader roundsReader sheetReader scheduleRead play load noneResident
 table =
@@ -278,7 +278,8 @@ table =
     row (check (hex 6 0x102008001001) (hex 2 0x8010)) (number 8) refl ∷
     -- The order of a sheet's refusals. 9 comes before the value of the field in which the sheet ends. With zeros for the bits that are missing, it
     -- would be 0 and 4,080 rounds; fetches of block 448 of 1, with D's ticket of block 0 by disk 1, and of block 0 again; with C's ticket nothing
-    -- discarded though the one slot is taken, and a discard of block 0, which is not in it; with A's ticket and ones, a discard though it is empty.
+    -- discarded though the one slot is taken, and a discard of block 0, which is not in it; with ones for them and A's ticket, a
+    -- discard though the slot is empty.
     row (check ticketA []) (number 9) refl ∷
     row (check ticketA (hex 1 0xff)) (number 9) refl ∷
     row (check ticketA (hex 2 0x001f)) (number 9) refl ∷
@@ -308,7 +309,7 @@ table =
     row (check ticketD (hex 5 0x0018010000)) (number 11) refl ∷
     row (check ticketA (hex 5 0x0028010000)) (number 12) refl ∷
     -- 13 and 14 come before 15, with references left after the last action: with D's ticket disk 1 fetches block 3 beside block 2 in its one slot;
-    -- it does so again, and discards block 3, which is not in it.
+    -- in the second sheet it also discards block 3, which is not in that slot.
     row (check ticketD (hex 5 0x0024044060)) (number 13) refl ∷
     row (check ticketD (hex 6 0x002404407018)) (number 14) refl ∷
     -- 9 comes before 15, with the reference left: the sheet ends where round 5 is due, and inside the block that round 2 fetches.

@@ -1,5 +1,5 @@
--- Plans by a rule that chooses as both rules do: each round is valid, discards nothing beside an empty slot and consumes at least one reference, so
--- a plan is a valid schedule of at most as many rounds as references are left. Assumes nothing.
+-- Plans by a rule that chooses as both rules do: each round can be played, discards nothing beside an empty slot and consumes at least one
+-- reference, so a plan is a valid schedule of at most as many rounds as references are left. Assumes nothing.
 use mathlib.Core.Path.{_≡_, refl, sym, ap, _∙_, subst}
 use mathlib.Core.Logic.{_≢_}
 use mathlib.Core.Bool.{Bool, true, false}

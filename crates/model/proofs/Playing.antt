@@ -1,4 +1,4 @@
--- Reading on: how many references a round consumes, and that a round of a valid schedule leads to the state that playing it gives. Assumes nothing.
+-- Reading on: how many references a round consumes, and that a round by the axioms leads to the state that playing it gives. Assumes nothing.
 use mathlib.Core.Path.{_≡_, sym, ap, _∙_}
 use mathlib.Core.Bool.{Bool, true, false}
 use mathlib.Core.List.{List, [], _∷_}
@@ -75,7 +75,7 @@ readOn-is j marks p q h l held stops =
     (λ r. ap (isResident marks) (getD-drop p (j .refs) (q - p) 0 ∙ ap (refAt j) e) ∙ stops (omega (arith, b))) in
     omega (arith, k)
 
--- A round of a valid schedule leads to the state that playing it gives.
+-- A round by the axioms leads to the state that playing it gives.
 pub round-plays : (j : Job) (s : State) (actions : List Action) (t : State) → Round j s actions t → t ≡ playRound j s actions
 unfolding playRound
 round-plays j s actions t h =

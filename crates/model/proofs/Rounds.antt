@@ -1,4 +1,4 @@
--- What a round of any valid schedule does, as the two theorems need it: a block of a disk sees only that disk's action, at most one block
+-- What a round of any schedule does that can be played, as the two theorems need it: a block of a disk sees only that disk's action, at most one block
 -- enters, and the reading leaves every missing block ahead. Assumes nothing.
 use mathlib.Core.Path.{_≡_, refl, sym, ap, _∙_}
 use mathlib.Core.Bool.{Bool, true, false}

@@ -1,5 +1,5 @@
--- The short plan is unbeaten in rounds. It is compared round by round with any valid schedule, from states of which the plan's is ahead: it has
--- read as far, and of no disk does it miss more blocks up to any later position. Each round keeps it ahead. Assumes nothing.
+-- The short plan is unbeaten in rounds. It is compared round by round with any schedule that can be played, from states of which the plan's is
+-- ahead: it has read as far, and of no disk does it miss more blocks up to any later position. Each round keeps it ahead. Assumes nothing.
 use mathlib.Core.Path.{_≡_, refl, ap}
 use mathlib.Core.Bool.{Bool}
 use mathlib.Core.List.{List, [], _∷_}
@@ -121,7 +121,7 @@ module _ (j : Job) (sound : Sound j) (s t : State) (ready : Ready j s) (ahead : 
         omega (arith, x, y, m));
   }
 
--- Every valid schedule from a state that the plan's is ahead of takes at least the plan's rounds, however many rounds the plan may start.
+-- Every schedule that can be played from a state that the plan's is ahead of takes at least the plan's rounds, however many rounds the plan may start.
 pub short-unbeaten : (j : Job) → Sound j → (most : ℕ) (s t : State) (schedule : Schedule) → Ready j s → Ahead j s t → ValidFrom j t schedule
     → length (planFrom short j most s) ≤ length schedule
 unfolding planFrom ValidFrom actionsOf

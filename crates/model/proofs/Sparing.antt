@@ -1,6 +1,6 @@
--- The sparing plan is unbeaten in fetches on every disk. The plan is compared with any valid schedule by position and not by round: `charge q` is
--- the number of fetches that the schedule has made on the disk when it first reads up to q. The plan's fetches so far, with what it misses up to
--- q, never exceed that. Assumes nothing.
+-- The sparing plan is unbeaten in fetches on every disk. The plan is compared with any schedule that can be played, by position and not by round:
+-- `charge q` is the number of fetches that the schedule has made on the disk when it first reads up to q. The plan's fetches so far, with what it
+-- misses up to q, never exceed that. Assumes nothing.
 use mathlib.Core.Path.{_≡_, refl, sym, ap, subst}
 use mathlib.Core.Bool.{Bool, true, false, cond}
 use mathlib.Core.List.{List, [], _∷_, map}
@@ -174,7 +174,7 @@ plan-spares j sound d known F (suc most) s ready between f h =
     (λ e. rw (e, planFrom) (omega (arith, ih, b)))
     (λ e. rw (e, planFrom) (omega (arith, all)))
 
--- Every valid schedule from the same state makes at least the plan's fetches on each disk.
+-- Every schedule that can be played from the same state makes at least the plan's fetches on each disk.
 pub sparing-unbeaten : (j : Job) → Sound j → (most : ℕ) (s : State) (schedule : Schedule) → Ready j s → ValidFrom j s schedule → (d : ℕ) → d < diskCount j
     → fetches (map (map action) (planFrom sparing j most s)) d ≤ fetches schedule d
 unfolding fetches

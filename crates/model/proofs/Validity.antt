@@ -1,4 +1,5 @@
--- The schedules that the check allows are the valid ones: its tests, action by action, say what legality, A1 and A2 say. Assumes nothing.
+-- The schedules that the check's tests but for 20 allow are those that can be played: the tests, action by action, say what legality, A1 and A2
+-- say. What passes also discards nothing beside an empty slot. Assumes nothing.
 use mathlib.Core.Path.{_≡_, sym, ap, _∙_, subst}
 use mathlib.Core.Bool.{Bool, cond}
 use mathlib.Core.List.{List, [], _∷_, _++_}

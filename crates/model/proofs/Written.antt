@@ -37,7 +37,7 @@ both : {A : Type 0} (t u : Bool) (a b : A) → cond t (cond u a b) b ≡ cond (t
 both true u a b = refl
 both false u a b = refl
 
--- What a reader gives for what it should read as a: 20 where something was discarded beside an empty slot.
+-- `a` and the bits that are left where `full` holds, and else a stop with 20.
 abbrev readIf : {A : Type 0} → Bool → A → List ℕ → Read A
 readIf full a rest = cond full (got a rest) (stop 20)
 

@@ -85,8 +85,8 @@ pub record ValidTicket (ticket : List ℕ) (j : Job) : Type 0 where
   pub fewClosing : closingBits < 8
   pub written : bits ticket ≡ ticketBits j ++ replicate closingBits 0
 
--- A sheet of a job as document 01 has it: at most 2,048 rounds of such a schedule, written as bits, then fewer than eight zero bits and no byte
--- after.
+-- A sheet of a job as document 01 has it: at most 2,048 rounds of a schedule that can be played and consumes all references, written as bits, then
+-- fewer than eight zero bits and no byte after.
 pub record LegalSheet (j : Job) (sheet : List ℕ) (schedule : Schedule) : Type 0 where
   pub fewRounds : length schedule ≤ 2048
   pub valid : ValidFrom j (start j) schedule
