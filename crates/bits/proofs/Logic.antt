@@ -4,8 +4,10 @@ use mathlib.Core.List.{List, [], _∷_}
 use Prim.Native.Nat.{ℕ, zero, suc, _≤_, _<_}
 use native.Mathlib.Omega.{arith}
 use native.Mathlib.Nat.{le-of-suc-le-suc, not-suc-le-zero}
+use lib.Dec.{ltb, leb}
 use lib.ListN.{length, getD, replicate}
-use mathlib.Core.Bool.{Bool, true, false, _&&_, _||_, true≢false}
+use borrow.Author.Tests.{lt-ltb, le-ltb, leb-true, leb-false}
+use mathlib.Core.Bool.{Bool, true, false, not, _&&_, _||_, true≢false}
 
 -- by the value of a test
 pub by-test : {P : Type 0} (t : Bool) → (t ≡ true → P) → (t ≡ false → P) → P
@@ -53,6 +55,10 @@ pub same-test : (a b : Bool) → (a ≡ true → b ≡ true) → (b ≡ true →
 same-test true b f g = sym (f refl)
 same-test false true f g = g refl
 same-test false false f g = refl
+
+-- less is not at least
+pub ltb-not : (a b : ℕ) → ltb a b ≡ not (leb b a)
+ltb-not a b = by-test (leb b a) (λ t. rw t (le-ltb a b (leb-true b a t))) (λ t. rw t (lt-ltb a b (leb-false b a t)))
 
 -- A fact about every value of a list.
 unfoldable pub Each : {A : Type 0} → (A → Type 0) → List A → Type 0

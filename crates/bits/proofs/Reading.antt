@@ -91,9 +91,11 @@ pub refuse-ok : (n : ℕ) (t : Bool) (l : List ℕ) → t ≡ false → refuseIf
 unfolding refuseIf
 refuse-ok n t l e = rw e
 
-pub refuse-stop : (n : ℕ) (t : Bool) (l : List ℕ) → t ≡ true → refuseIf n t l ≡ stop n
-unfolding refuseIf
-refuse-stop n t l e = rw e
+-- a refusal is the first that counts
+
+pub bind-stop : {A B : Type 0} (m : Reader A) (f : A → Reader B) (l : List ℕ) {n : ℕ} → m l ≡ stop n → (m >>= f) l ≡ stop n
+unfolding _>>=_ bind
+bind-stop m f l e = ap (λ (r : Read _). bind r f) e
 
 pub then-stop : {A B : Type 0} (m : Reader A) (r : Reader B) (l : List ℕ) {n : ℕ} → m l ≡ stop n → (m >> r) l ≡ stop n
 unfolding _>>_ bind
@@ -102,9 +104,8 @@ then-stop m r l e = ap (λ (x : Read _). bind x (λ _. r)) e
 -- Where the first part of a step gives a value if a test holds, and stops if not, the step gives what its second part gives, or stops likewise.
 pub bind-if : {A B : Type 0} (m : Reader A) (f : A → Reader B) (l : List ℕ) (t : Bool) (a : A) (after : List ℕ) (n : ℕ) {x : Read B}
     → m l ≡ cond t (got a after) (stop n) → f a after ≡ x → (m >>= f) l ≡ cond t x (stop n)
-unfolding _>>=_ bind
 bind-if m f l true a after n e g = bind-ok m f l e ∙ g
-bind-if m f l false a after n e g = ap (λ (r : Read _). bind r f) e
+bind-if m f l false a after n e g = bind-stop m f l e
 
 pub closing-ok : (n : ℕ) (l : List ℕ) → length l < 8 → allZero l ≡ true → closing n l ≡ got tt []
 unfolding closing isClosed

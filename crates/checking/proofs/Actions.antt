@@ -1,17 +1,17 @@
 -- One action: what stands at a position is what the reader of the model reads there. Assumes nothing.
-use mathlib.Core.Path.{_≡_, refl, sym, ap, _∙_}
+use mathlib.Core.Path.{_≡_, refl, ap, _∙_}
 use mathlib.Core.Bool.{Bool, not, _&&_, _||_}
 use mathlib.Core.List.{List}
 use Prim.Native.Nat.{ℕ, zero, suc, _+_, _<_}
 use native.Mathlib.Omega.{arith}
 use lib.Dec.{ltb, leb, eqb}
 use lib.ListN.{getD, drop}
-use borrow.Author.Tests.{ltb-true, ltb-false, lt-ltb, le-ltb, leb-true, leb-false, lt-leb, le-leb, ne-eqb}
+use borrow.Author.Tests.{ltb-true, ltb-false, lt-leb, le-leb, ne-eqb}
 use Rattle.bits.specs.Bits.{bits}
 use Rattle.bits.specs.Reading.{Reader, bind, _>>=_, _>>_, give, field, refuseIf}
 use Rattle.bits.specs.Fields.{fieldAt}
 use Rattle.bits.specs.declared.Field.the-variants.{Value}
-use Rattle.bits.proofs.Logic.{by-test}
+use Rattle.bits.proofs.Logic.{by-test, ltb-not}
 use Rattle.bits.proofs.Fields.{field-then}
 use Rattle.model.specs.Job.{Job, blockCount, slotsOf, diskOf}
 use Rattle.model.specs.Playing.{Action, replace, isResident, load}
@@ -53,10 +53,7 @@ module _ (j : Job) (marks : List Bool) (d blocks : ℕ) (disk : List ℕ) (full 
       (λ t. rw (t, le-leb blocks x (ltb-false x blocks t))))
 
   empty-seen : ltb (load j marks d) (slotsOf j d) ≡ not full
-  empty-seen =
-      by-test full
-      (λ t. le-ltb (load j marks d) (slotsOf j d) (leb-true (slotsOf j d) (load j marks d) (h .taken ∙ t)) ∙ ap not (sym t))
-      (λ t. lt-ltb (load j marks d) (slotsOf j d) (leb-false (slotsOf j d) (load j marks d) (h .taken ∙ t)) ∙ ap not (sym t))
+  empty-seen = ltb-not (load j marks d) (slotsOf j d) ∙ ap not (h .taken)
 
   module _ (s : List ℕ) (at : ℕ) where
     -- the discarded block z

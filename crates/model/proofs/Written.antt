@@ -7,12 +7,12 @@ use Prim.Native.Nat.{ℕ, zero, suc, _≤_, _<_}
 use native.Mathlib.Omega.{arith}
 use lib.Dec.{ltb, leb, eqb}
 use lib.ListN.{length, replicate}
-use borrow.Author.Tests.{lt-ltb, le-ltb, leb-true, leb-false, lt-leb, eq-eqb}
+use borrow.Author.Tests.{lt-ltb, le-ltb, lt-leb, eq-eqb}
 use Rattle.bits.specs.Bits.{digits}
-use Rattle.bits.specs.Reading.{Read, got, stop, _>>=_, give, field, refuseIf, closing}
-use Rattle.bits.proofs.Logic.{by-test}
+use Rattle.bits.specs.Reading.{Read, got, stop, bind, _>>=_, _>>_, give, field, refuseIf, closing}
+use Rattle.bits.proofs.Logic.{by-test, ltb-not}
 use Rattle.bits.proofs.Bits.{field-digits}
-use Rattle.bits.proofs.Reading.{bind-ok, bind-if, then-ok, then-stop, refuse-ok, refuse-stop, closing-zeros}
+use Rattle.bits.proofs.Reading.{bind-ok, bind-if, then-ok, refuse-ok, closing-zeros}
 use Rattle.model.specs.Job.{Job, diskCount, blockCount, refCount, slotsOf, diskOf}
 use Rattle.model.specs.Playing.{Action, idle, fetch, replace, Schedule, State, isResident, load, act, playRound, play}
 use Rattle.model.specs.Sheet.{actionBits, roundBits, roundsBits, sheetBits, holds, discardReader, fetchReader, actionReader, roundReader, roundsReader, sheetReader}
@@ -56,15 +56,14 @@ module _ (j : Job) (few : blockCount j ≤ 512) where
 
   discard-one : (marks : List Bool) (d x z : ℕ) (rest : List ℕ) → Block j marks d z true
       → discardReader j marks d x 1 (digits 9 z ++ rest) ≡ readIf (discardsFull j marks d (replace x z)) (replace x z) rest
-  unfolding discardReader discardsFull give
+  unfolding discardReader discardsFull _>>_ bind refuseIf give
   discard-one marks d x z rest h =
-      by-test (leb (slotsOf j d) (load j marks d))
-      (λ full. then-ok (refuseIf 20 (ltb (load j marks d) (slotsOf j d))) _ _ (refuse-ok 20 _ _ (le-ltb (load j marks d) (slotsOf j d) (leb-true (slotsOf j d) (load j marks d) full)))
-      ∙ bind-ok (field 9 9) _ (digits 9 z ++ rest) (block-field 9 z rest (let k = h .known in omega (arith, k)))
-      ∙ then-ok (refuseIf 14 (not (holds j marks d z))) (give (replace x z)) rest (refuse-ok 14 _ rest (discard-passes marks d z h))
-      ∙ rw full)
-      (λ empty. then-stop (refuseIf 20 (ltb (load j marks d) (slotsOf j d))) _ _ (refuse-stop 20 _ _ (lt-ltb (load j marks d) (slotsOf j d) (leb-false (slotsOf j d) (load j marks d) empty)))
-      ∙ rw empty)
+      rw (ltb-not (load j marks d) (slotsOf j d))
+      (by-test (leb (slotsOf j d) (load j marks d))
+      (λ full. rw full (
+      bind-ok (field 9 9) _ (digits 9 z ++ rest) (block-field 9 z rest (let k = h .known in omega (arith, k)))
+      ∙ then-ok (refuseIf 14 (not (holds j marks d z))) (give (replace x z)) rest (refuse-ok 14 _ rest (discard-passes marks d z h))))
+      (λ empty. rw empty refl))
 
   fetch-none : (marks : List Bool) (d : ℕ) (rest : List ℕ) → fetchReader j marks d 0 rest ≡ got idle rest
   unfolding fetchReader give

@@ -8,11 +8,11 @@ use native.Mathlib.Omega.{arith}
 use lib.ListN.{length, drop, set, replicate, length-replicate}
 use lib.Seq.{sets, sets-eq}
 use Rattle.bits.specs.Bits.{bits}
-use Rattle.bits.specs.Reading.{Read, got, stop, Reader, bind, _>>=_, _>>_, give, field, refuseIf, many}
+use Rattle.bits.specs.Reading.{Read, got, stop, Reader, _>>=_, _>>_, give, field, refuseIf, many}
 use Rattle.bits.specs.Fields.{fieldAt}
 use Rattle.bits.specs.declared.Field.{Field}
 use Rattle.bits.specs.declared.Field.the-variants.{Value, Ended}
-use Rattle.bits.proofs.Reading.{bind-ok}
+use Rattle.bits.proofs.Reading.{bind-ok, bind-stop}
 use Rattle.job.specs.Meaning.{padTo}
 use Rattle.ticket.specs.Parts.{outside, entryOf, entryAt, entryThen, Filled, noPart, filledBy, fill, partAt}
 use Rattle.ticket.specs.declared.Row.{Row}
@@ -20,16 +20,6 @@ use Rattle.ticket.specs.declared.Part.{Part}
 use Rattle.ticket.specs.declared.Entry.{Entry}
 use Rattle.ticket.specs.declared.Entry.the-variants.{Value as Held, Refused}
 use Rattle.ticket.proofs.Entries.{entry-within, entry-reads}
-
--- a refusal is the first that counts
-
-pub bind-stop : {A B : Type 0} (m : Reader A) (f : A → Reader B) (l : List ℕ) {n : ℕ} → m l ≡ stop n → (m >>= f) l ≡ stop n
-unfolding _>>=_ bind
-bind-stop m f l e = ap (λ (r : Read _). bind r f) e
-
-pub then-stop : {A B : Type 0} (m : Reader A) (r : Reader B) (l : List ℕ) {n : ℕ} → m l ≡ stop n → (m >> r) l ≡ stop n
-unfolding _>>_ bind
-then-stop m r l e = ap (λ (x : Read _). bind x (λ _. r)) e
 
 -- No refusal has the number 0.
 entry-numbered : (t : List ℕ) (at : ℕ) (row : Row) {n : ℕ} → 1 ≤ row .number → entryAt t at row ≡ Refused n → 1 ≤ n

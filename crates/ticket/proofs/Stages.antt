@@ -9,7 +9,7 @@ use lib.ListN.{drop, replicate}
 use borrow.Author.Tests.{lt-ltb, le-ltb, ltb-true, eq-eqb, eqb-true}
 use Rattle.bits.specs.Bits.{bits}
 use Rattle.bits.specs.Reading.{Read, stop, Reader, _>>=_, _>>_, give, field, refuseIf, many, isClosed, closing, answer, readAll}
-use Rattle.bits.proofs.Reading.{then-ok, closing-open, closing-closed, readAll-ok}
+use Rattle.bits.proofs.Reading.{then-ok, then-stop, closing-open, closing-closed, readAll-ok}
 use Rattle.bits.proofs.Logic.{same-test}
 use Rattle.model.specs.Job.{Job}
 use Rattle.model.specs.Ticket.{slotsField, diskField, refField, ticketReader, ticketOf}
@@ -19,7 +19,7 @@ use Rattle.ticket.specs.Parts.{disksRow, slotsRow, blocksRow, diskRow, r
 use Rattle.ticket.specs.declared.Row.{Row}
 use Rattle.ticket.specs.declared.Part.{Part}
 use Rattle.ticket.proofs.Entries.{entry-reads}
-use Rattle.ticket.proofs.Parts.{then-stop, Reads, PartRead, part-reads, Got, part-got, part-stop}
+use Rattle.ticket.proofs.Parts.{Reads, PartRead, part-reads, Got, part-got, part-stop}
 
 -- the tests of the readers are those of the rows
 

@@ -44,7 +44,7 @@ returns-4 : tie.Need-returns-4
 unfolding discardAt
 returns-4 c =
     let bit = c .before .before .before in
-    rw (← bit .before .before .field .ensures, bit .discards .given .1, ne-eqb _ _ (c .before .if1 .left), empty c)
+    rw (← bit .before .before .field .ensures, bit .discards .given .1, ne-eqb _ _ (c .before .if1 .left), empty c) refl
 
 returns-5 : tie.Need-returns-5
 returns-5 c = rw (discards (c .before .before), c .enum-told2 .given .1)
