@@ -57,6 +57,9 @@ build '' && "$dir/differential" 1 1000 >"$dir/report" || { cat "$dir/report"; ec
 "$dir/differential" 1 1 >"$dir/report"
 [ $? -eq 1 ] && grep -q '^FAIL' "$dir/report" || { echo "one job is taken for enough"; exit 1; }
 
+# A plan that does not end is cut at N rounds: its sheet is then too long for the room.
+at_most_n='s/(begin\(job, &r\); r.next_read < job->references)(; schedule)/\1 \&\& counts->rounds < job->references\2/'
+
 fault '14 not tested' 'reference 14' 's/return 14;/return 0;/'
 fault '20 not tested' 'number: library [01].*, reference 20' 's/return 20;/;/'
 fault '20 tested after the discarded block' 'number: library \(9\|14\), reference 20' \
@@ -68,6 +71,8 @@ fault '20 where the slots are full' 'number: library 20, reference 0' \
 fault 'unfinished sheets pass' 'number: library 0, reference 15' 's/return 15;/return 0;/'
 fault 'lowest number among several nevers' 'DISAGREE: s' 's/(distance\[b\] )>=( l->distance\[v->min_block)/\1>\2/'
 fault 'P-CON never waits' 'DISAGREE' 's/rule == REF_P_CON && waits/false \&\& waits/'
+fault 'positions in eight bits' 'number: library 17, reference 0' "/^static void build_lookup/,/^}/s/\\(uint16_t\\)/(uint8_t)/;$at_most_n"
+fault 'the position 2048 held as 0' 'number: library 17, reference 0' "s/\\(uint16_t\\)job->references/(uint16_t)(job->references % 2048)/;$at_most_n"
 fault 'the mark of equal rounds' 'DISAGREE: counts' 's/p->mark = choice\(p->counts\)/p->mark = p->counts[1].rounds < p->counts[0].rounds/'
 fault '18 tested before 17' 'number: library 18, reference 17' \
     's/p->sheet_length\[k\] > room\[k\]/p->sheet_length[1 - k] > room[1 - k]/;s/return 17 \+ k/return 18 - k/'

@@ -51,6 +51,9 @@ all_wait='s/rule == REF_P_CON && waits/waits/'
 demand="s/^    survey\\(.*/&\\n$each_disk $on_demand/"
 early='s/^    if \(l->distance\[v.min_block\] < /    if (rule == REF_P_MIN \&\& l->distance[v.min_block] < /
     s/if \(from_u > l->distance\[v.min_block\]\)/unsigned m = l->distance[v.min_block]; while (m < l->distance[v.u]) m = l->next[m]; if (from_u > m)/'
+# a plan that does not end is cut, so that its answer differs
+at_most_n='s/(begin\(job, &r\); r.next_read < job->references)(; schedule)/\1 \&\& counts->rounds < job->references\2/
+    s/(begin\(job, &r\); r.next_read < job->references)(;\) \{)/\1 \&\& round < job->references\2/'
 written_first='s/^    if \(number != 0\)$/    if (number == 18) ref_write_sheet(drawn.schedule[0], drawn.planned.counts[0].rounds, drawn.job.disks, p_min, ns);\n&/'
 n_as_e="s/return 'N'/return s->held[d] < job->slots[d] ? 'E' : 'N'/"
 n_as_s="s/return 'N'/return s->held[d] == job->slots[d] \\&\\& l->distance[v.min_block] < job->references ? 'S' : 'N'/"
@@ -126,6 +129,10 @@ mutant 'P-CON: two nevers not equal, the higher number is later' \
 mutant 'P-CON counted from the next read, not from U' \
     's/while \(from_u < l->distance\[v.u\]\)/while (false)/'
 mutant 'equal rounds give the sheet of P-MIN' 's/p->mark = choice\(p->counts\)/p->mark = p->counts[1].rounds < p->counts[0].rounds/'
+
+# How positions are held
+mutant 'positions in eight bits' "/^static void build_lookup/,/^}/s/\\(uint16_t\\)/(uint8_t)/;$at_most_n"
+mutant 'the position 2048 held as 0' "s/\\(uint16_t\\)job->references/(uint16_t)(job->references % 2048)/;$at_most_n"
 
 # What planning hands back
 mutant 'part length always that of P-MIN' 's/(p->length = .*)\[p->mark\]/\1[REF_P_MIN]/'

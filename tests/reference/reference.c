@@ -1,4 +1,4 @@
-/* reference.c - document 01 and requests L1 to L3, sentence by sentence; words between quotation
+/* reference.c - document 01 and requests L1 to L4, sentence by sentence; words between quotation
  * marks are their own. */
 #include "reference.h"
 
@@ -187,7 +187,7 @@ static unsigned consume(const struct ref_job *job, const struct buffers *s, unsi
 
 /* ---- The two plans ---- */
 
-/* Positions; never is N, "greatest of all". */
+/* Positions, held "as 16-bit numbers"; never is N, "greatest of all". */
 struct lookup {
     uint16_t next[REF_REFERENCES];  /* the next position of the same block after this one */
     uint16_t distance[REF_BLOCKS];  /* the first position at or after the next read */

@@ -1,4 +1,4 @@
-/* reference.h - the planner of document 01 with requests L1 to L3, written from the papers alone.
+/* reference.h - the planner of document 01 with requests L1 to L4, written from the papers alone.
  *
  * A reference to compare others with: tables and plain passes over the blocks, nothing clever.
  * Every answer "number" is 0, or the number of the refusal in documents 01 and 02. */

@@ -7,8 +7,9 @@ ghost use Rattle.bits.specs.Bits.{Below};
 ghost use Rattle.lookup.specs.Lookup.{firsts, agains, refDisks};
 ghost use Rattle.lookup.specs.Desk.{cell, withCell, ofBlock, ofDisk, opened, stepped};
 
-// A position in the reference list. "Never" is the list's length.
-pub type Position = usize;
+// A position in the reference list. "Never" is the list's length. Document 02, L4: "none exceeds 2048. .. Hold them inside as 16-bit numbers, with
+// every cast shown to lose nothing; callers are untouched."
+pub type Position = u16;
 
 // A row of the desk, and of the steps.
 pub type Row = [Position; 512];
@@ -37,7 +38,7 @@ const OF_BLOCK: usize = 0;
 
 const OF_DISK: usize = 1;
 
-// A number as a position, and a position as a number.
+// A number as a position, and a position as a number. Nothing is lost: what is given back is the same number.
 fn position(i: usize) -> Position
     requires { ⌜ i ≤ 2048 ⌝ }
     ensures { λ r. ⌜ r ≡ i ⌝ }
