@@ -1,9 +1,9 @@
 /* bench.c - what planning, checking and choosing cost, beside the reference.
  *
  * usage: bench [REPEATS [DATA]]
- * Times the library and the reference in turn on the same bytes, REPEATS times (default 31), and prints medians of times and of
- * ratios as tables in markdown. Writes the figures of the growing jobs to the file DATA. Exit 1 if a ratio is above what is asked of full-size
- * jobs: planning half of the reference's time, checking all of it. */
+ * Times the library and the reference in turn on the same bytes, with the stop of the whole job, REPEATS times (default 31), and prints medians of
+ * times and of ratios as tables in markdown. Writes the figures of the growing jobs to the file DATA. Exit 1 if a ratio is above what is asked of
+ * full-size jobs: planning half of the reference's time, checking all of it. */
 #include "jobs.h"
 #include "stack.h"
 #include <planner.h>
@@ -22,7 +22,7 @@ static const double most_ratio[2] = {0.5, 1.0};   /* planning, checking */
 
 static struct {
     uint8_t ticket[REF_TICKET], sheet[2][REF_SHEET], other[2][REF_SHEET];
-    size_t ticket_length;
+    size_t ticket_length, stop;
     struct ref_planned planned;
 } job;
 
@@ -38,14 +38,14 @@ static unsigned plan(void)
 {
     uint8_t counts[PLANNER_PLAN_COUNTS];
 
-    return planner_plan(job.ticket, job.ticket_length, job.other[0], REF_SHEET, job.other[1], REF_SHEET, counts, sizeof counts);
+    return planner_plan(job.ticket, job.ticket_length, job.stop, job.other[0], REF_SHEET, job.other[1], REF_SHEET, counts, sizeof counts);
 }
 
 static unsigned ref_plan_both(void)
 {
     struct ref_planned planned;
 
-    return ref_plan(job.ticket, job.ticket_length, job.other[0], REF_SHEET, job.other[1], REF_SHEET, &planned);
+    return ref_plan(job.ticket, job.ticket_length, job.stop, job.other[0], REF_SHEET, job.other[1], REF_SHEET, &planned);
 }
 
 /* Checks both sheets. */
@@ -55,7 +55,7 @@ static unsigned check(void)
     unsigned number = 0;
 
     for (unsigned k = 0; k < 2; k++)
-        number |= planner_check(job.ticket, job.ticket_length, job.sheet[k], job.planned.sheet_length[k], counts, sizeof counts);
+        number |= planner_check(job.ticket, job.ticket_length, job.stop, job.sheet[k], job.planned.sheet_length[k], counts, sizeof counts);
     return number;
 }
 
@@ -65,7 +65,7 @@ static unsigned ref_check_both(void)
     unsigned number = 0;
 
     for (unsigned k = 0; k < 2; k++)
-        number |= ref_check(job.ticket, job.ticket_length, job.sheet[k], job.planned.sheet_length[k], &counts);
+        number |= ref_check(job.ticket, job.ticket_length, job.stop, job.sheet[k], job.planned.sheet_length[k], &counts);
     return number;
 }
 
@@ -74,16 +74,16 @@ static unsigned choose(void)
 {
     uint8_t counts[PLANNER_CHOOSE_COUNTS];
 
-    return planner_choose(job.ticket, job.ticket_length, job.sheet[0], job.planned.sheet_length[0], job.sheet[1], job.planned.sheet_length[1],
-                          counts, sizeof counts);
+    return planner_choose(job.ticket, job.ticket_length, job.stop, job.sheet[0], job.planned.sheet_length[0], job.sheet[1],
+                          job.planned.sheet_length[1], counts, sizeof counts);
 }
 
 static unsigned ref_choose_one(void)
 {
     struct ref_chosen chosen;
 
-    return ref_choose(job.ticket, job.ticket_length, job.sheet[0], job.planned.sheet_length[0], job.sheet[1], job.planned.sheet_length[1],
-                      &chosen);
+    return ref_choose(job.ticket, job.ticket_length, job.stop, job.sheet[0], job.planned.sheet_length[0], job.sheet[1],
+                      job.planned.sheet_length[1], &chosen);
 }
 
 static unsigned (*const calls[CALLS])(void) = {plan, ref_plan_both, check, ref_check_both, choose, ref_choose_one};
@@ -95,7 +95,9 @@ static void prepare(const struct shape *s)
 
     make_job(s, &made);
     job.ticket_length = ref_write_ticket(&made, job.ticket, sizeof job.ticket);
-    must(ref_plan(job.ticket, job.ticket_length, job.sheet[0], REF_SHEET, job.sheet[1], REF_SHEET, &job.planned) == 0, "a job is refused");
+    job.stop = made.stop;
+    must(ref_plan(job.ticket, job.ticket_length, job.stop, job.sheet[0], REF_SHEET, job.sheet[1], REF_SHEET, &job.planned) == 0,
+         "a job is refused");
     must(plan() == 0, "the library refuses a job");
     for (unsigned k = 0; k < 2; k++)
         must(memcmp(job.sheet[k], job.other[k], job.planned.sheet_length[k]) == 0, "the sheets differ");
@@ -232,8 +234,8 @@ static void reading(unsigned repeats)
             double start = nanoseconds();
 
             for (unsigned k = 0; k < TIMES; k++)
-                must((which == 0 ? planner_check(job.ticket, job.ticket_length, NULL, 0, counts, sizeof counts)
-                                 : ref_check(job.ticket, job.ticket_length, job.sheet[0], 0, &ref)) == PLANNER_SHEET_ENDS,
+                must((which == 0 ? planner_check(job.ticket, job.ticket_length, job.stop, NULL, 0, counts, sizeof counts)
+                                 : ref_check(job.ticket, job.ticket_length, job.stop, job.sheet[0], 0, &ref)) == PLANNER_SHEET_ENDS,
                      "an empty sheet does not end with 9");
             took[which][r] = (nanoseconds() - start) / TIMES;
         }

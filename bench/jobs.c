@@ -42,6 +42,7 @@ void make_job(const struct shape *s, struct ref_job *job)
     job->disks = s->disks;
     job->blocks = s->blocks;
     job->references = s->references;
+    job->stop = s->references;
     for (unsigned d = 0; d < s->disks; d++)
         job->slots[d] = s->pattern == THRASH && d == 0 ? 1 : s->slots;
     for (unsigned b = 0; b < s->blocks; b++)

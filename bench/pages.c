@@ -86,7 +86,8 @@ static size_t page_length(const struct ref_job *job)
     size_t n = ref_write_ticket(job, ticket, sizeof ticket);
     struct ref_paged paged;
 
-    must(ref_page(ticket, n, sheet[0], REF_SHEET, sheet[1], REF_SHEET, page, REF_PAGE, &paged) == 0, "the reference refuses a job");
+    must(ref_page(ticket, n, job->stop, sheet[0], REF_SHEET, sheet[1], REF_SHEET, page, REF_PAGE, &paged) == 0,
+         "the reference refuses a job");
     return paged.length;
 }
 

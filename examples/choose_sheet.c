@@ -35,7 +35,8 @@ int main(int argc, char **argv)
     size_t n = read_file(argv[1], ticket, sizeof ticket);
     size_t first = read_file(argv[2], sheets[0], sizeof sheets[0]);
     size_t second = read_file(argv[3], sheets[1], sizeof sheets[1]);
-    uint32_t number = planner_choose(ticket, n, sheets[0], first, sheets[1], second, counts, sizeof counts);
+    size_t stop = planner_references(ticket, n);              /* the whole job */
+    uint32_t number = planner_choose(ticket, n, stop, sheets[0], first, sheets[1], second, counts, sizeof counts);
 
     if (number != PLANNER_OK) {
         fprintf(stderr, "refused %u: %s\n", (unsigned)number, planner_why(number));

@@ -28,6 +28,17 @@ static void print_refusal(uint32_t number)
     printf("refused %u: %s\n", (unsigned)number, planner_why(number));
 }
 
+static void print_plan(unsigned mark, const uint8_t *plan, const uint8_t *sheet, unsigned length)
+{
+    printf("%s, %u rounds\n", mark == 1 ? "sparing" : "short", number_at(plan, 0));
+    for (unsigned d = 0; d < 2; d++)
+        printf("disk %u fetches %u\n", d, number_at(plan, 1 + d));
+    printf("sheet");
+    for (unsigned k = 0; k < length; k++)
+        printf(" %02x", sheet[k]);
+    printf("\n");
+}
+
 static int wrong(const char *what)
 {
     printf("not as expected: %s\n", what);
@@ -38,7 +49,8 @@ int main(void)
 {
     static uint8_t short_sheet[PLANNER_LONGEST_SHEET], sparing_sheet[PLANNER_LONGEST_SHEET];
     uint8_t planned[PLANNER_PLAN_COUNTS], checked[PLANNER_CHECK_COUNTS];
-    uint32_t number = planner_plan(ticket, sizeof ticket, short_sheet, sizeof short_sheet, sparing_sheet,
+    size_t stop = planner_references(ticket, sizeof ticket);   /* all 7 references count: the whole job */
+    uint32_t number = planner_plan(ticket, sizeof ticket, stop, short_sheet, sizeof short_sheet, sparing_sheet,
                                    sizeof sparing_sheet, planned, sizeof planned);
 
     if (number != PLANNER_OK) {
@@ -49,20 +61,13 @@ int main(void)
     const uint8_t *sheet = mark == 1 ? sparing_sheet : short_sheet;
     const uint8_t *plan = planned + (mark == 1 ? 22 : 4);   /* rounds and fetches of the plan to run */
 
-    printf("%s, %u rounds\n", mark == 1 ? "sparing" : "short", number_at(plan, 0));
-    for (unsigned d = 0; d < 2; d++)
-        printf("disk %u fetches %u\n", d, number_at(plan, 1 + d));
-    printf("sheet");
-    for (unsigned k = 0; k < length; k++)
-        printf(" %02x", sheet[k]);
-    printf("\n");
-
+    print_plan(mark, plan, sheet, length);
     for (unsigned k = 0; k < 20; k++)
         if (number_at(planned, k) != numbers[k])
             return wrong("a number of the plans");
     if (length != sizeof run_sheet || memcmp(sheet, run_sheet, length) != 0)
         return wrong("the sheet");
-    number = planner_check(ticket, sizeof ticket, sheet, length, checked, sizeof checked);
+    number = planner_check(ticket, sizeof ticket, stop, sheet, length, checked, sizeof checked);
     if (number != PLANNER_OK) {
         print_refusal(number);
         return wrong("the check refuses the sheet");
@@ -70,7 +75,7 @@ int main(void)
     if (memcmp(checked, plan, sizeof checked) != 0)
         return wrong("the check's rounds and fetches");
 
-    number = planner_check(ticket, sizeof ticket, sheet, length - 1, checked, sizeof checked);
+    number = planner_check(ticket, sizeof ticket, stop, sheet, length - 1, checked, sizeof checked);
     if (number != PLANNER_SHEET_ENDS)
         return wrong("the number for a sheet that is cut");
     printf("without its last byte: ");

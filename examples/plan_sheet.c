@@ -1,23 +1,39 @@
 /* plan_sheet.c - reads a ticket from standard input and writes the sheet to run to standard output.
  *
- * Exit 1 if the ticket is refused, with a line on standard error that says why; 2 if reading or writing fails. */
+ * usage: plan_sheet [STOP]
+ * With a STOP only so many references count, from the first on, and the sheet is for that part of the job; without it all count. Exit 1 if the ticket
+ * or the stop is refused, with a line on standard error that says why; 2 for bad usage, or if reading or writing fails. */
 #include <planner.h>
 
 #include <stdio.h>
+#include <stdlib.h>
+#include <string.h>
 
-int main(void)
+static int is_number(const char *word)
+{
+    return word[0] != '\0' && word[strspn(word, "0123456789")] == '\0';
+}
+
+int main(int argc, char **argv)
 {
     /* One byte more than the longest ticket: a longer input is refused as it would be as a whole. */
     static uint8_t ticket[PLANNER_LONGEST_TICKET + 1];
     static uint8_t sheets[2][PLANNER_LONGEST_SHEET];
     uint8_t counts[4];
+
+    if (argc > 2 || (argc == 2 && !is_number(argv[1]))) {
+        fprintf(stderr, "usage: plan_sheet [STOP]\n");
+        return 2;
+    }
     size_t n = fread(ticket, 1, sizeof ticket, stdin);
 
     if (ferror(stdin)) {
         perror("reading the ticket");
         return 2;
     }
-    uint32_t number = planner_plan(ticket, n, sheets[0], sizeof sheets[0], sheets[1], sizeof sheets[1], counts, sizeof counts);
+    /* A number too large for strtoul becomes the largest, which is refused as well. */
+    size_t stop = argc == 2 ? strtoul(argv[1], NULL, 10) : planner_references(ticket, n);
+    uint32_t number = planner_plan(ticket, n, stop, sheets[0], sizeof sheets[0], sheets[1], sizeof sheets[1], counts, sizeof counts);
 
     if (number != PLANNER_OK) {
         fprintf(stderr, "refused %u: %s\n", (unsigned)number, planner_why(number));

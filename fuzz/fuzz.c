@@ -1,8 +1,8 @@
 /* fuzz.c - the library against the reference on bytes that libFuzzer makes (input.h has their form).
  *
- * An input's first sheet is checked for its ticket, the choice is made between its two sheets, and its ticket is planned; the sheets of a plan
- * are checked too, and the choice is made between them and between one of them and the first sheet. Numbers, counts and all lent bytes must be
- * the reference's, with guard bytes around them, and no sheet that passes may beat a plan. */
+ * An input's first sheet is checked for its ticket up to its stop, the choice is made between its two sheets, and its ticket is planned; the sheets
+ * of a plan are checked too, and the choice is made between them and between one of them and the first sheet. Numbers, counts and all lent bytes must
+ * be the reference's, with guard bytes around them, and no sheet that passes may beat a plan. The header must read the same N from the ticket. */
 #include "../tests/draw.h"
 #include "input.h"
 #include <planner.h>
@@ -58,15 +58,15 @@ static void compare(struct lent *s, const char *what)
 
 /* ---- The three calls ---- */
 
-/* Demand 3, for a ticket that is accepted. */
-static bool unbeaten(const uint8_t *ticket, size_t n, const struct ref_counts *sheet)
+/* Demand 3, for a ticket and a stop that are accepted. */
+static bool unbeaten(const struct input *in, const struct ref_counts *sheet)
 {
     static struct ref_action schedule[REF_ROUNDS * REF_DISKS];
     static struct ref_job job;
     struct ref_counts p_min, p_con;
     bool good;
 
-    must(ref_read_ticket(ticket, n, &job) == 0, "a pass for a ticket that is refused");
+    must(ref_read_ticket(in->ticket, in->ticket_length, in->stop, &job) == 0, "a pass for a ticket or a stop that is refused");
     ref_run(&job, REF_P_MIN, schedule, &p_min);
     ref_run(&job, REF_P_CON, schedule, &p_con);
     good = sheet->rounds >= p_min.rounds;
@@ -85,14 +85,14 @@ static void try_check(const struct input *in, struct sheet sheet)
     struct lent t = lend(in->ticket, in->ticket_length), s = lend(sheet.at, sheet.len), c = lend(NULL, in->counts_length);
     uint16_t numbers[REF_CHECKED_NUMBERS];
     struct ref_counts counts;
-    unsigned want = ref_check(t.want + GUARD, t.len, s.want + GUARD, s.len, &counts);
-    uint32_t have = planner_check(t.have + GUARD, t.len, s.have + GUARD, s.len, c.have + GUARD, c.len);
+    unsigned want = ref_check(t.want + GUARD, t.len, in->stop, s.want + GUARD, s.len, &counts);
+    uint32_t have = planner_check(t.have + GUARD, t.len, in->stop, s.have + GUARD, s.len, c.have + GUARD, c.len);
 
     same_number(have, want, "the check's number");
     if (want == 0) {
         ref_checked_numbers(&counts, numbers);
         ref_fill_counts(numbers, REF_CHECKED_NUMBERS, c.want + GUARD, c.len);
-        must(unbeaten(in->ticket, in->ticket_length, &counts), "a sheet that passes beats a plan");
+        must(unbeaten(in, &counts), "a sheet that passes beats a plan");
     }
     compare(&t, "the check's ticket");
     compare(&s, "the check's sheet");
@@ -105,8 +105,8 @@ static void try_choose(const struct input *in, struct sheet first, struct sheet 
     struct lent a = lend(first.at, first.len), b = lend(second.at, second.len);
     uint16_t numbers[REF_CHOSEN_NUMBERS];
     struct ref_chosen chosen;
-    unsigned want = ref_choose(t.want + GUARD, t.len, a.want + GUARD, a.len, b.want + GUARD, b.len, &chosen);
-    uint32_t have = planner_choose(t.have + GUARD, t.len, a.have + GUARD, a.len, b.have + GUARD, b.len, c.have + GUARD, c.len);
+    unsigned want = ref_choose(t.want + GUARD, t.len, in->stop, a.want + GUARD, a.len, b.want + GUARD, b.len, &chosen);
+    uint32_t have = planner_choose(t.have + GUARD, t.len, in->stop, a.have + GUARD, a.len, b.have + GUARD, b.len, c.have + GUARD, c.len);
 
     same_number(have, want, "the choice's number");
     if (want == 0) {
@@ -131,8 +131,8 @@ static unsigned try_plan(const struct input *in, const size_t length[2])
     struct lent s = lend(NULL, room_for(length[0], in->room[0])), p = lend(NULL, room_for(length[1], in->room[1]));
     uint16_t numbers[REF_PLANNED_NUMBERS];
     struct ref_planned planned;
-    unsigned want = ref_plan(t.want + GUARD, t.len, s.want + GUARD, s.len, p.want + GUARD, p.len, &planned);
-    uint32_t have = planner_plan(t.have + GUARD, t.len, s.have + GUARD, s.len, p.have + GUARD, p.len, c.have + GUARD, c.len);
+    unsigned want = ref_plan(t.want + GUARD, t.len, in->stop, s.want + GUARD, s.len, p.want + GUARD, p.len, &planned);
+    uint32_t have = planner_plan(t.have + GUARD, t.len, in->stop, s.have + GUARD, s.len, p.have + GUARD, p.len, c.have + GUARD, c.len);
 
     same_number(have, want, "planning's number");
     if (want == 0) {
@@ -146,6 +146,18 @@ static unsigned try_plan(const struct input *in, const size_t length[2])
     return want;
 }
 
+/* The header's reader, on bytes of their own, so that a read past them is seen. */
+static void try_references(const struct input *in)
+{
+    uint8_t *ticket = malloc(in->ticket_length + 1);
+
+    must(ticket != NULL, "no memory");
+    if (in->ticket_length > 0)
+        memcpy(ticket + 1, in->ticket, in->ticket_length);
+    must(planner_references(ticket + 1, in->ticket_length) == ref_references(in->ticket, in->ticket_length), "planner_references");
+    free(ticket);
+}
+
 int LLVMFuzzerTestOneInput(const uint8_t *data, size_t size)
 {
     static uint8_t sheet[2][REF_SHEET];
@@ -153,9 +165,10 @@ int LLVMFuzzerTestOneInput(const uint8_t *data, size_t size)
     struct sheet first = {in.sheet[0], in.sheet_length[0]}, second = {in.sheet[1], in.sheet_length[1]}, plan[2];
     struct ref_planned planned;
 
+    try_references(&in);
     try_check(&in, first);
     try_choose(&in, first, second);
-    if (ref_plan(in.ticket, in.ticket_length, sheet[0], REF_SHEET, sheet[1], REF_SHEET, &planned) != 0) {
+    if (ref_plan(in.ticket, in.ticket_length, in.stop, sheet[0], REF_SHEET, sheet[1], REF_SHEET, &planned) != 0) {
         try_plan(&in, (const size_t[]){1, 1});
         return 0;
     }
@@ -175,7 +188,7 @@ int LLVMFuzzerTestOneInput(const uint8_t *data, size_t size)
 /* The parts of an input while they are changed. */
 static struct {
     uint8_t ticket[REF_TICKET + 64], sheet[2][REF_SHEET + 64];
-    size_t n, m[2];
+    size_t n, m[2], stop;
 } parts;
 
 /* Puts an input together from its parts; 0 if they are more than most bytes. */
@@ -189,13 +202,20 @@ static size_t put_together(uint8_t *data, size_t most)
     data[3] = (uint8_t)parts.n;
     data[4] = (uint8_t)(parts.m[0] >> 8);
     data[5] = (uint8_t)parts.m[0];
+    put_stop(data, parts.stop);
     memcpy(data + HEAD, parts.ticket, parts.n);
     memcpy(data + first, parts.sheet[0], parts.m[0]);
     memcpy(data + second, parts.sheet[1], parts.m[1]);
     return end;
 }
 
-/* A sheet of a job: one of its plans, or a schedule drawn by chance. Gives its length. */
+/* A stop for a job of so many references; one in eight is above them. */
+static size_t fresh_stop(struct chance *c, unsigned references)
+{
+    return one_in(c, 8) ? draw_stop_above(c, references) : draw_stop(c, references);
+}
+
+/* A sheet of a job up to its stop: one of its plans, or a schedule drawn by chance. Gives its length. */
 static size_t fresh_sheet(struct chance *c, const struct ref_job *job, uint8_t *sheet)
 {
     static struct ref_action schedule[REF_ROUNDS * REF_DISKS];
@@ -213,41 +233,54 @@ static size_t fresh_sheet(struct chance *c, const struct ref_job *job, uint8_t *
     return ref_write_sheet(schedule, rounds, job->disks, sheet, REF_SHEET);
 }
 
-/* A sound ticket drawn by chance, with two sheets of it. */
+/* A sound ticket and a stop drawn by chance, with two sheets for them, or for the whole job if the stop is above it. */
 static size_t fresh(struct chance *c, uint8_t *data, size_t most)
 {
     static struct ref_job job;
 
     draw_job(c, &job);
     parts.n = ref_write_ticket(&job, parts.ticket, sizeof parts.ticket);
+    parts.stop = fresh_stop(c, job.references);
+    if (parts.stop <= job.references)
+        job.stop = (unsigned)parts.stop;
     for (unsigned k = 0; k < 2; k++)
         parts.m[k] = fresh_sheet(c, &job, parts.sheet[k]);
     fill(c, data, 2);
     return put_together(data, most);
 }
 
-/* Changes the ticket alone, one sheet alone, or all bytes as they stand; now and then a fresh job. */
+/* Takes an input apart to be changed; false if it does not fit. */
+static bool take_apart(const struct input *in)
+{
+    if (in->ticket_length > sizeof parts.ticket || in->sheet_length[0] > sizeof parts.sheet[0] || in->sheet_length[1] > sizeof parts.sheet[1])
+        return false;
+    parts.stop = in->stop;
+    parts.n = in->ticket_length;
+    memcpy(parts.ticket, in->ticket, parts.n);
+    for (unsigned k = 0; k < 2; k++) {
+        parts.m[k] = in->sheet_length[k];
+        memcpy(parts.sheet[k], in->sheet[k], parts.m[k]);
+    }
+    return true;
+}
+
+/* Changes the ticket alone, one sheet alone, the stop alone, or all bytes as they stand; now and then a fresh job. */
 size_t LLVMFuzzerCustomMutator(uint8_t *data, size_t size, size_t most, unsigned seed)
 {
     struct chance c = chance_for(seed, 0);
     struct input in = input_of(data, size);
     unsigned how = below(&c, 16);
-    bool fit = in.ticket_length <= sizeof parts.ticket && in.sheet_length[0] <= sizeof parts.sheet[0] && in.sheet_length[1] <= sizeof parts.sheet[1];
     size_t made = 0;
 
     if (how == 0)
         made = fresh(&c, data, most);
-    else if (how < 12 && size >= HEAD && fit) {
-        parts.n = in.ticket_length;
-        memcpy(parts.ticket, in.ticket, parts.n);
-        for (unsigned k = 0; k < 2; k++) {
-            parts.m[k] = in.sheet_length[k];
-            memcpy(parts.sheet[k], in.sheet[k], parts.m[k]);
-        }
+    else if (how < 13 && size >= HEAD && take_apart(&in)) {
         if (how < 6)
             parts.n = LLVMFuzzerMutate(parts.ticket, parts.n, sizeof parts.ticket);
-        else
+        else if (how < 11)
             parts.m[how % 2] = LLVMFuzzerMutate(parts.sheet[how % 2], parts.m[how % 2], sizeof parts.sheet[0]);
+        else
+            parts.stop = fresh_stop(&c, ref_references(parts.ticket, parts.n));
         made = put_together(data, most);
     }
     return made > 0 ? made : LLVMFuzzerMutate(data, size, most);

@@ -1,9 +1,8 @@
 /* seeds.c - the vectors of tests/vectors as inputs of the fuzz target.
  *
  * usage: seeds FOLDER FILE...
- * Each vector gives inputs: a check its ticket with its sheet twice, a choice its ticket with both sheets, and a plan that is not refused its
- * ticket with the two sheets that it ends in, in both orders; a refused plan gives its ticket with two empty sheets. A page, which C programs cannot
- * ask for, gives none. */
+ * Each vector gives inputs, with its ticket and its stop: a check with its sheet twice, a choice with both sheets, a plan that is not refused with
+ * the two sheets that it ends in, in both orders, and a refused plan with two empty sheets. A page, which C programs cannot ask for, gives none. */
 #include "input.h"
 
 #include <stdio.h>
@@ -24,10 +23,15 @@ static size_t put_hex(uint8_t *data, size_t size, const char *text)
     return size;
 }
 
-static void write_input(const char *folder, const char *ticket, const char *first, const char *second)
+/* What a vector asks about. */
+struct part {
+    const char *ticket, *stop;
+};
+
+static void write_input(const char *folder, struct part part, const char *first, const char *second)
 {
     static uint8_t data[LINE];
-    size_t ticket_end = put_hex(data, HEAD, ticket), first_end = put_hex(data, ticket_end, first), size = put_hex(data, first_end, second);
+    size_t ticket_end = put_hex(data, HEAD, part.ticket), first_end = put_hex(data, ticket_end, first), size = put_hex(data, first_end, second);
     char path[4096];
     FILE *file;
 
@@ -37,25 +41,28 @@ static void write_input(const char *folder, const char *ticket, const char *firs
     data[3] = (uint8_t)(ticket_end - HEAD);
     data[4] = (uint8_t)((first_end - ticket_end) >> 8);
     data[5] = (uint8_t)(first_end - ticket_end);
+    put_stop(data, strtoull(part.stop, NULL, 10));
     snprintf(path, sizeof path, "%s/%03u", folder, written++);
     file = fopen(path, "wb");
     if (file == NULL || fwrite(data, 1, size, file) != size || fclose(file) != 0)
         exit(2);
 }
 
-/* plan TICKET .. | SHEET | SHEET, plan TICKET .. = NUMBER, check TICKET SHEET .., or choose TICKET SHEET SHEET .. */
+/* plan TICKET STOP .. | SHEET | SHEET, plan TICKET STOP .. = NUMBER, check TICKET STOP SHEET .., or choose TICKET STOP SHEET SHEET .. */
 static void take_line(const char *folder, char *line)
 {
-    char *call = strtok(line, " \n"), *ticket = strtok(NULL, " \n"), *sheet = strtok(NULL, " \n"), *word, *last[4] = {"-", "-", "-", "-"};
+    char *call = strtok(line, " \n"), *ticket = strtok(NULL, " \n"), *stop = strtok(NULL, " \n"), *sheet = strtok(NULL, " \n"), *word;
+    const char *last[4] = {"-", "-", "-", "-"};
+    struct part part = {ticket, stop};
 
-    if (call == NULL || call[0] == '#' || ticket == NULL || sheet == NULL || strcmp(call, "page") == 0)
+    if (call == NULL || call[0] == '#' || sheet == NULL || strcmp(call, "page") == 0)
         return;
     if (strcmp(call, "check") == 0) {
-        write_input(folder, ticket, sheet, sheet);
+        write_input(folder, part, sheet, sheet);
         return;
     }
     if (strcmp(call, "choose") == 0 && (word = strtok(NULL, " \n")) != NULL) {
-        write_input(folder, ticket, sheet, word);
+        write_input(folder, part, sheet, word);
         return;
     }
     while ((word = strtok(NULL, " \n")) != NULL) {
@@ -63,10 +70,10 @@ static void take_line(const char *folder, char *line)
         last[3] = word;
     }
     if (strcmp(last[2], "|") == 0) {
-        write_input(folder, ticket, last[3], last[1]);
-        write_input(folder, ticket, last[1], last[3]);
+        write_input(folder, part, last[3], last[1]);
+        write_input(folder, part, last[1], last[3]);
     } else {
-        write_input(folder, ticket, "-", "-");
+        write_input(folder, part, "-", "-");
     }
 }
 

@@ -5,13 +5,18 @@
  *
  *   planner_plan    makes two plans of a job: the short one (P-MIN), which takes the fewest rounds, and the sparing one (P-CON), which takes the
  *                   fewest fetches on every disk; and says which one to run: the sparing one exactly when both take equally many rounds.
- *   planner_check   passes a sheet exactly if it is a valid schedule of the ticket, whoever drew it up.
+ *   planner_check   passes a sheet exactly if it is a valid schedule of the ticket up to the stop, whoever drew it up.
  *   planner_choose  checks two sheets for a ticket, whoever drew them up, and hands back the second if it takes no more rounds than the first,
  *                   otherwise the first.
  *   planner_why     gives the sentence for the number of a refusal. It is plain C, in this header, and not proved.
+ *   planner_references
+ *                   reads the number of references from a ticket, the stop for the whole job. It is plain C as well.
  *
- * A ticket is a job as bytes, a sheet a schedule as bytes. No sheet that planner_check passes for a ticket takes fewer rounds than the short plan,
- * or on any disk fewer fetches than the sparing plan. This, each result and every byte written are proved of the source; the compiler is trusted.
+ * A ticket is a job as bytes, a sheet a schedule as bytes. A stop is the number of references that count, from the first on: none at or past it is
+ * read, and a block that is read only from there on is as one that is never read again. A stop that is the ticket's number of references is the whole
+ * job; any value may be given, and one above that number is refused. No sheet that planner_check passes for a ticket and a stop takes fewer rounds than
+ * the short plan for them, or on any disk fewer fetches than the sparing plan. This, each result and every byte written are proved of the source; the
+ * compiler is trusted.
  *
  * Rules for planner_plan, planner_check and planner_choose:
  *   - Each slice is a pointer and a length in bytes. A pointer may be null only with the length 0.
@@ -49,6 +54,8 @@ enum planner_number {
     PLANNER_TICKET_REFERENCES = 6,
     PLANNER_TICKET_REFERENCE = 7,
     PLANNER_TICKET_CLOSING = 8,
+    /* the stop, in every call, after the ticket */
+    PLANNER_STOP = 21,
     /* the sheet, in planner_check; either sheet, in planner_choose */
     PLANNER_SHEET_ENDS = 9,
     PLANNER_SHEET_ROUNDS = 10,
@@ -79,6 +86,7 @@ static inline const char *planner_why(uint32_t number)
     case PLANNER_TICKET_REFERENCES: return "the job has more than 2048 references";
     case PLANNER_TICKET_REFERENCE:  return "a reference is to a block that the job has not";
     case PLANNER_TICKET_CLOSING:    return "the ticket's closing bits are not all zero, or a byte follows them";
+    case PLANNER_STOP:              return "the stop is above the ticket's number of references";
     case PLANNER_SHEET_ENDS:        return "the sheet ends inside a field that is due";
     case PLANNER_SHEET_ROUNDS:      return "the sheet has more than 2048 rounds";
     case PLANNER_SHEET_FETCHED:     return "a disk fetches a block that is not one of its own";
@@ -95,9 +103,31 @@ static inline const char *planner_why(uint32_t number)
     }
 }
 
-/* Plans a ticket.
+/* A field of a ticket: the `width` bits from the bit `at` on, most significant first, or 0 if the bytes end before its end. */
+static inline size_t planner_field(const uint8_t *ticket, size_t ticket_length, size_t at, size_t width)
+{
+    size_t value = 0;
+    for (size_t bit = at; bit < at + width; bit++) {
+        if (bit / 8 >= ticket_length)
+            return 0;
+        value = value << 1 | (ticket[bit / 8] >> (7 - bit % 8) & 1u);
+    }
+    return value;
+}
+
+/* The number of references that a ticket says, which is the stop for the whole job; of any bytes, and 0 if they end before that field's end. Nothing
+ * is tested here: a call refuses a bad ticket with the ticket's own number, whatever the stop. */
+static inline size_t planner_references(const uint8_t *ticket, size_t ticket_length)
+{
+    size_t disks = planner_field(ticket, ticket_length, 0, 4);
+    size_t blocks = planner_field(ticket, ticket_length, 4 + 7 * disks, 10);
+    return planner_field(ticket, ticket_length, 14 + 7 * disks + 3 * blocks, 12);
+}
+
+/* Plans a ticket up to a stop.
  *
  *   ticket         read only
+ *   stop           the number of references that count
  *   short_sheet    the short plan's sheet is written at its start; the bytes after the sheet do not change
  *   sparing_sheet  the same for the sparing plan
  *   counts         twenty numbers of 16 bits, most significant byte first, as far as the slice reaches (its length may be 0):
@@ -106,40 +136,43 @@ static inline const char *planner_why(uint32_t number)
  *                    2..10   the short plan: its rounds, and its fetches on disks 0 to 7 (0 for disks that the job has not)
  *                    11..19  the sparing plan: the same
  *
- * Returns 0, or 1 to 8, 17 or 18. A refusal writes nothing. Each written sheet passes planner_check with the counts given here. */
-uint32_t planner_plan(const uint8_t *ticket, size_t ticket_length,
+ * Returns 0, or 1 to 8, 21, 17 or 18. A refusal writes nothing. Each written sheet passes planner_check, with the same stop, with the counts given
+ * here. */
+uint32_t planner_plan(const uint8_t *ticket, size_t ticket_length, size_t stop,
                       uint8_t *short_sheet, size_t short_length,
                       uint8_t *sparing_sheet, size_t sparing_length,
                       uint8_t *counts, size_t counts_length);
 
-/* Checks a sheet for a ticket.
+/* Checks a sheet for a ticket up to a stop.
  *
  *   ticket, sheet  read only
+ *   stop           the number of references that count: the sheet need read no others
  *   counts         nine numbers of 16 bits, most significant byte first, as far as the slice reaches (its length may be 0):
  *                    0       the sheet's rounds
  *                    1..8    its fetches on disks 0 to 7
  *
- * Returns 0 if the sheet is a valid schedule of the ticket's job, else 1 to 16 or 20. A refusal writes nothing. */
-uint32_t planner_check(const uint8_t *ticket, size_t ticket_length,
+ * Returns 0 if the sheet is a valid schedule of the ticket's job up to the stop, else 1 to 8, 21, 9 to 16 or 20. A refusal writes nothing. */
+uint32_t planner_check(const uint8_t *ticket, size_t ticket_length, size_t stop,
                        const uint8_t *sheet, size_t sheet_length,
                        uint8_t *counts, size_t counts_length);
 
-/* Chooses between two sheets for a ticket. Both are checked as planner_check does it, the first before the second. The second is handed back if it
- * takes no more rounds than the first, otherwise the first.
+/* Chooses between two sheets for a ticket up to a stop. Both are checked as planner_check does it, the first before the second. The second is handed
+ * back if it takes no more rounds than the first, otherwise the first.
  *
  *   ticket         read only
+ *   stop           the number of references that count
  *   first, second  the two sheets, read only; they may be the same memory
  *   counts         two numbers of 16 bits, most significant byte first, as far as the slice reaches (its length may be 0):
  *                    0       the sheet handed back: 0 the first, 1 the second
  *                    1       the length of that sheet, in bytes: first_length or second_length
  *
- * Returns 0, or 1 to 16 or 20: planner_check's number for the first sheet or, if that is 0, for the second. A refusal writes nothing.
+ * Returns 0, or 1 to 8, 21, 9 to 16 or 20: planner_check's number for the first sheet or, if that is 0, for the second. A refusal writes nothing.
  *
  * No sheet is copied: the caller has both, and the one handed back is `second` if number 0 above is 1, else `first`. It passes planner_check and
- * takes no more rounds than the other. Between the two sheets of planner_plan, the short one first, it is the second exactly when planner_plan's
- * mark is 1; planner_plan gives the length of the sheet to run only, so after it go by the mark. With the short plan's sheet first, nobody's second
+ * takes no more rounds than the other. Between the two sheets of planner_plan with the same stop, the short one first, it is the second exactly when
+ * planner_plan's mark is 1; planner_plan gives the length of the sheet to run only, so after it go by the mark. With the short plan's sheet first, nobody's second
  * sheet is handed back unless it takes equally many rounds. */
-uint32_t planner_choose(const uint8_t *ticket, size_t ticket_length,
+uint32_t planner_choose(const uint8_t *ticket, size_t ticket_length, size_t stop,
                         const uint8_t *first, size_t first_length,
                         const uint8_t *second, size_t second_length,
                         uint8_t *counts, size_t counts_length);

@@ -3,10 +3,11 @@
  * usage: differential [SEED [COUNT [FIRST]]]
  * Draws COUNT jobs from number FIRST on (default 0) and stops at the first disagreement. Every
  * job's draws depend on the seed and its own number only, so "SEED 1 FIRST" replays one job.
- * Exit 0 only if all agree and, in a run from 0 on, each call met every number that it can return
- * and filled counts slices of every length from 0 to 45, and the choice met also each number of a
- * second sheet whose first passes, handed back either sheet, and met equal rounds and the same
- * sheet twice. */
+ * Exit 0 only if all agree and, in a run from 0 on, each call met every number that it can return,
+ * every kind of stop, and stops above N for tickets that are refused, and filled counts slices of
+ * every length from 0 to 45; the check met sheets for a later and for an earlier stop; the choice
+ * met also each number of a second sheet whose first passes, handed back either sheet, and met equal
+ * rounds and the same sheet twice; and the header read N from sound tickets and other bytes. */
 #define _DEFAULT_SOURCE        /* for MAP_ANONYMOUS */
 #include "draw.h"
 #include <planner.h>
@@ -18,7 +19,7 @@
 #include <string.h>
 #include <sys/mman.h>
 
-enum { GUARD = 24, COUNTS_MOST = 45, NUMBERS = 21, SLICES = 4, SHEETS = 16 };
+enum { GUARD = 24, COUNTS_MOST = 45, NUMBERS = 22, SLICES = 4, SHEETS = 16 };
 enum { ARENA = 1 << 16, EDGE = 1 << 12 };   /* bytes for one slice; bytes after it that nobody may touch */
 
 /* CHOOSE_SECOND is planner_choose where the first sheet passes and the second is refused. */
@@ -27,10 +28,24 @@ enum call { PLAN, CHECK, CHOOSE, CHOOSE_SECOND, CALLS };
 static const char *const call_name[CALLS] = {"planner_plan", "planner_check", "planner_choose",
                                              "planner_choose, by the second sheet"};
 
+/* The kinds of stop, for an accepted ticket: 0, between 0 and N, N; above N the next number, the
+ * largest, one whose last 16 or 32 bits are not above, and others. */
+enum kind { NONE, BETWEEN, WHOLE, NEXT, LARGEST, LOW_16, LOW_32, ABOVE, KINDS };
+
+static const char *const kind_name[KINDS] = {"0", "in between", "N", "N + 1", "the largest",
+                                             "not above in 16 bits", "in 32 bits", "others"};
+
+/* The bytes from which the header reads N: a sound ticket; others that give a number, or 0. */
+enum read { SOUND, OTHER, ZERO, READS };
+
 static struct {
     uint64_t seed, job;
+    size_t stop;               /* of the last call */
     struct chance chance;
     unsigned long met[CALLS][NUMBERS], lengths[CALLS][COUNTS_MOST + 1];
+    unsigned long stops[CALLS][KINDS], ticket_first[CALLS];
+    unsigned long later, earlier[2];           /* sheets for a later stop; an earlier one: 0, 15 */
+    unsigned long reads[READS];
     unsigned long marks[2], passes, chosen[2], equal, same;
 } run;
 
@@ -110,17 +125,23 @@ static void print_hex(const char *name, const struct lent *s)
     printf("%s\n", s->len == 0 ? "-" : "");
 }
 
+static void say_replay(void)
+{
+    printf("replay: differential %" PRIu64 " 1 %" PRIu64 "\n", run.seed, run.job);
+}
+
 /* Says what was asked, in a way that can be replayed, and ends the run. */
 static void fail(enum call call, const struct lent *slices, unsigned how_many)
 {
-    printf("  in %s, seed %" PRIu64 ", job %" PRIu64 "\n", call_name[call], run.seed, run.job);
+    printf("  in %s, seed %" PRIu64 ", job %" PRIu64 ", stop %zu\n", call_name[call], run.seed,
+           run.job, run.stop);
     for (unsigned k = 0; k < how_many; k++) {
         if (slices[k].given)
             print_hex(slices[k].name, &slices[k]);
         else
             printf("  %s: %zu bytes lent\n", slices[k].name, slices[k].len);
     }
-    printf("replay: differential %" PRIu64 " 1 %" PRIu64 "\n", run.seed, run.job);
+    say_replay();
     exit(1);
 }
 
@@ -128,7 +149,7 @@ static void fail(enum call call, const struct lent *slices, unsigned how_many)
 static void stopped(int cause)
 {
     printf("STOPPED by signal %d\n", cause);
-    printf("replay: differential %" PRIu64 " 1 %" PRIu64 "\n", run.seed, run.job);
+    say_replay();
     fflush(stdout);
     _Exit(1);
 }
@@ -175,8 +196,37 @@ struct bytes {
     size_t len;
 };
 
-static void try_plan(struct bytes ticket, size_t ns, size_t np)
+/* A ticket and a stop. */
+struct part {
+    struct bytes ticket;
+    size_t stop;
+};
+
+static enum kind kind_of(size_t stop, unsigned references)
 {
+    if (stop <= references)
+        return stop == references ? WHOLE : stop == 0 ? NONE : BETWEEN;
+    if (stop == references + 1u)
+        return NEXT;
+    if (stop == SIZE_MAX)
+        return LARGEST;
+    return (uint32_t)stop <= references ? LOW_32 : (uint16_t)stop <= references ? LOW_16 : ABOVE;
+}
+
+/* Counts the stop of a call with this number: which it was, or that the ticket came first. */
+static void count_stop(enum call call, struct part part, unsigned number)
+{
+    unsigned references = ref_references(part.ticket.at, part.ticket.len);
+
+    if (number == 0 || number == 21)
+        run.stops[call][kind_of(part.stop, references)]++;
+    else if (number <= 8 && part.stop > references)
+        run.ticket_first[call]++;
+}
+
+static void try_plan(struct part part, size_t ns, size_t np)
+{
+    const struct bytes ticket = part.ticket;
     uint16_t numbers[REF_PLANNED_NUMBERS];
     struct ref_planned planned;
     struct lent s[4];
@@ -187,42 +237,46 @@ static void try_plan(struct bytes ticket, size_t ns, size_t np)
     s[1] = lend(1, "short sheet", NULL, ns);
     s[2] = lend(2, "sparing sheet", NULL, np);
     s[3] = lend(3, "counts", NULL, below(&run.chance, COUNTS_MOST + 1));
-    want = ref_plan(s[0].want, ticket.len, s[1].want, ns, s[2].want, np, &planned);
-    have = planner_plan(lent_at(&s[0]), ticket.len, lent_at(&s[1]), ns, lent_at(&s[2]), np,
-                        lent_at(&s[3]), s[3].len);
+    run.stop = part.stop;
+    want = ref_plan(s[0].want, ticket.len, part.stop, s[1].want, ns, s[2].want, np, &planned);
+    have = planner_plan(lent_at(&s[0]), ticket.len, part.stop, lent_at(&s[1]), ns, lent_at(&s[2]),
+                        np, lent_at(&s[3]), s[3].len);
     if (want == 0) {
         ref_planned_numbers(&planned, numbers);
         ref_fill_counts(numbers, REF_PLANNED_NUMBERS, s[3].want, s[3].len);
         run.marks[planned.mark]++;
     }
+    count_stop(PLAN, part, want);
     compare(PLAN, have, want, s, 4);
 }
 
-/* The counts of both plans for a ticket, "whether or not a planning call has room". */
-static const struct ref_counts *plans_of(struct bytes ticket)
+/* The counts of both plans for a ticket up to a stop, "whether or not a planning call has room". */
+static const struct ref_counts *plans_of(struct part part)
 {
     static struct ref_action schedule[REF_ROUNDS * REF_DISKS];
     static struct ref_counts counts[2];
     static uint8_t last[REF_TICKET];
-    static size_t last_len;
+    static size_t last_len, last_stop;
     static struct ref_job job;
 
-    if (ticket.len == last_len && memcmp(ticket.at, last, last_len) == 0)
+    if (part.ticket.len == last_len && part.stop == last_stop &&
+        memcmp(part.ticket.at, last, last_len) == 0)
         return counts;
-    if (ref_read_ticket(ticket.at, ticket.len, &job) != 0)
+    if (ref_read_ticket(part.ticket.at, part.ticket.len, part.stop, &job) != 0)
         exit(2);
-    last_len = ticket.len;
-    memcpy(last, ticket.at, last_len);
+    last_stop = part.stop;
+    last_len = part.ticket.len;
+    memcpy(last, part.ticket.at, last_len);
     ref_run(&job, REF_P_MIN, schedule, &counts[REF_P_MIN]);
     ref_run(&job, REF_P_CON, schedule, &counts[REF_P_CON]);
     return counts;
 }
 
 /* Demand 3: "the rounds given with the pass are compared with the short plan's, and the fetches
- * on each disk with the sparing plan's". */
-static bool unbeaten(struct bytes ticket, const struct ref_counts *sheet)
+ * on each disk with the sparing plan's", of the plans up to the same stop. */
+static bool unbeaten(struct part part, const struct ref_counts *sheet)
 {
-    const struct ref_counts *plan = plans_of(ticket);
+    const struct ref_counts *plan = plans_of(part);
     bool good = sheet->rounds >= plan[REF_P_MIN].rounds;
 
     for (unsigned d = 0; d < REF_DISKS; d++)
@@ -237,8 +291,9 @@ struct checked {
     struct ref_counts counts;
 };
 
-static struct checked try_check(struct bytes ticket, struct bytes sheet)
+static struct checked try_check(struct part part, struct bytes sheet)
 {
+    const struct bytes ticket = part.ticket;
     uint16_t numbers[REF_CHECKED_NUMBERS];
     struct checked want = {.sheet = sheet};
     struct lent s[3];
@@ -247,18 +302,20 @@ static struct checked try_check(struct bytes ticket, struct bytes sheet)
     s[0] = lend(0, "ticket", ticket.at, ticket.len);
     s[1] = lend(1, "sheet", sheet.at, sheet.len);
     s[2] = lend(2, "counts", NULL, below(&run.chance, COUNTS_MOST + 1));
-    want.number = ref_check(s[0].want, ticket.len, s[1].want, sheet.len, &want.counts);
-    have = planner_check(lent_at(&s[0]), ticket.len, lent_at(&s[1]), sheet.len, lent_at(&s[2]),
-                         s[2].len);
+    run.stop = part.stop;
+    want.number = ref_check(s[0].want, ticket.len, part.stop, s[1].want, sheet.len, &want.counts);
+    have = planner_check(lent_at(&s[0]), ticket.len, part.stop, lent_at(&s[1]), sheet.len,
+                         lent_at(&s[2]), s[2].len);
     if (want.number == 0) {
         ref_checked_numbers(&want.counts, numbers);
         ref_fill_counts(numbers, REF_CHECKED_NUMBERS, s[2].want, s[2].len);
         run.passes++;
-        if (!unbeaten(ticket, &want.counts)) {
+        if (!unbeaten(part, &want.counts)) {
             printf("DISAGREE: a sheet that passes beats a plan (demand 3)\n");
             fail(CHECK, s, 3);
         }
     }
+    count_stop(CHECK, part, want.number);
     compare(CHECK, have, want.number, s, 3);
     return want;
 }
@@ -266,7 +323,7 @@ static struct checked try_check(struct bytes ticket, struct bytes sheet)
 /* What is promised of the choice, by the check of each sheet: the number is that of the first sheet
  * that is refused; the sheet handed back takes no more rounds than the other; after the short
  * plan's, a second one is handed back only for equal rounds. Gives what does not hold, or NULL. */
-static const char *broken_promise(struct bytes ticket, const struct checked *first,
+static const char *broken_promise(struct part part, const struct checked *first,
                                   const struct checked *second, unsigned number, unsigned which)
 {
     unsigned r1 = first->counts.rounds, r2 = second->counts.rounds;
@@ -275,16 +332,17 @@ static const char *broken_promise(struct bytes ticket, const struct checked *fir
         return "the choice has another number than the check";
     if (number != 0)
         return NULL;
-    if (which == 1 && r1 == plans_of(ticket)[REF_P_MIN].rounds && r2 != r1)
+    if (which == 1 && r1 == plans_of(part)[REF_P_MIN].rounds && r2 != r1)
         return "the short plan's sheet is first, and one with other rounds is handed back";
     if (which == 0 ? r1 > r2 : r2 > r1)
         return "the sheet handed back takes more rounds than the other";
     return NULL;
 }
 
-/* Both were checked for this ticket. The same sheet twice is lent as the same memory. */
-static void try_choose(struct bytes ticket, struct checked first, struct checked second)
+/* Both were checked for this ticket and stop. The same sheet twice is lent as the same memory. */
+static void try_choose(struct part part, struct checked first, struct checked second)
 {
+    const struct bytes ticket = part.ticket;
     bool same = first.sheet.at == second.sheet.at;
     uint16_t numbers[REF_CHOSEN_NUMBERS];
     struct ref_chosen chosen;
@@ -297,10 +355,12 @@ static void try_choose(struct bytes ticket, struct checked first, struct checked
     s[1] = lend(1, "first sheet", first.sheet.at, first.sheet.len);
     s[2] = lend(2, "second sheet", second.sheet.at, second.sheet.len);
     s[3] = lend(3, "counts", NULL, below(&run.chance, COUNTS_MOST + 1));
-    want = ref_choose(s[0].want, ticket.len, s[1].want, s[1].len, s[2].want, s[2].len, &chosen);
-    have = planner_choose(lent_at(&s[0]), ticket.len, lent_at(&s[1]), s[1].len,
+    run.stop = part.stop;
+    want = ref_choose(s[0].want, ticket.len, part.stop, s[1].want, s[1].len, s[2].want, s[2].len,
+                      &chosen);
+    have = planner_choose(lent_at(&s[0]), ticket.len, part.stop, lent_at(&s[1]), s[1].len,
                           lent_at(&s[same ? 1 : 2]), s[2].len, lent_at(&s[3]), s[3].len);
-    broken = broken_promise(ticket, &first, &second, want, chosen.which);
+    broken = broken_promise(part, &first, &second, want, chosen.which);
     if (broken != NULL) {
         printf("DISAGREE: %s\n", broken);
         fail(CHOOSE, s, 4);
@@ -312,26 +372,71 @@ static void try_choose(struct bytes ticket, struct checked first, struct checked
         run.equal += !same && first.counts.rounds == second.counts.rounds;
         run.same += same;
     }
+    count_stop(CHOOSE, part, want);
     compare(want != 0 && first.number == 0 ? CHOOSE_SECOND : CHOOSE, have, want, s, 4);
+}
+
+/* ---- What the header reads ---- */
+
+/* The number of references that the header reads from any bytes. */
+static void try_references(struct bytes ticket, unsigned want, enum read read)
+{
+    struct lent s = lend(0, "ticket", ticket.at, ticket.len);
+    size_t have = planner_references(lent_at(&s), ticket.len);
+
+    run.reads[read]++;
+    if (have != want) {
+        printf("DISAGREE: planner_references gives %zu, the reference %u\n", have, want);
+        print_hex(s.name, &s);
+        say_replay();
+        exit(1);
+    }
+    give_back(&s);
+}
+
+/* Of bytes that may be no ticket. */
+static void try_other_references(struct bytes ticket)
+{
+    unsigned want = ref_references(ticket.at, ticket.len);
+
+    try_references(ticket, want, want > 0 ? OTHER : ZERO);
+}
+
+/* A sound ticket, the damaged one, the sound one cut anywhere, and bytes by chance, of which half
+ * are long enough for any number of disks and blocks. */
+static void try_reading(struct bytes ticket, struct bytes worse, const struct ref_job *job)
+{
+    static uint8_t any[800];
+
+    try_references(ticket, job->references, SOUND);
+    try_other_references(worse);
+    try_other_references((struct bytes){ticket.at, below(&run.chance, (unsigned)ticket.len)});
+    fill(&run.chance, any, sizeof any);
+    try_other_references((struct bytes){any, below(&run.chance, sizeof any)});
 }
 
 /* ---- One job ---- */
 
-/* Rooms exact, one byte short, and ample. */
-static void try_rooms(struct bytes ticket, size_t ns, size_t np)
+/* Rooms exact, one byte short or more, or ample. */
+static void try_room(struct part part, size_t ns, size_t np)
+{
+    switch (below(&run.chance, 6)) {
+    case 0: try_plan(part, ns - 1, np); break;
+    case 1: try_plan(part, ns, np - 1); break;
+    case 2: try_plan(part, ns - 1, np - 1); break;
+    case 3: try_plan(part, below(&run.chance, (unsigned)ns), np); break;
+    case 4: try_plan(part, ns, below(&run.chance, (unsigned)np)); break;
+    default: try_plan(part, REF_SHEET, REF_SHEET); break;
+    }
+}
+
+static void try_rooms(struct part part, size_t ns, size_t np)
 {
     unsigned spare = below(&run.chance, 50);
 
-    try_plan(ticket, ns, np);
-    try_plan(ticket, ns + spare, np + 49 - spare);
-    switch (below(&run.chance, 6)) {
-    case 0: try_plan(ticket, ns - 1, np); break;
-    case 1: try_plan(ticket, ns, np - 1); break;
-    case 2: try_plan(ticket, ns - 1, np - 1); break;
-    case 3: try_plan(ticket, below(&run.chance, (unsigned)ns), np); break;
-    case 4: try_plan(ticket, ns, below(&run.chance, (unsigned)np)); break;
-    default: try_plan(ticket, REF_SHEET, REF_SHEET); break;
-    }
+    try_plan(part, ns, np);
+    try_plan(part, ns + spare, np + 49 - spare);
+    try_room(part, ns, np);
 }
 
 /* The job's sheets, the short plan's first, and those of them that passed. */
@@ -342,9 +447,9 @@ static struct {
 } kept;
 
 /* Checks the next of the kept sheets. */
-static void try_kept(struct bytes ticket, size_t len)
+static void try_kept(struct part part, size_t len)
 {
-    struct checked c = try_check(ticket, (struct bytes){kept.bytes[kept.how_many], len});
+    struct checked c = try_check(part, (struct bytes){kept.bytes[kept.how_many], len});
 
     kept.all[kept.how_many++] = c;
     if (c.number == 0)
@@ -352,26 +457,26 @@ static void try_kept(struct bytes ticket, size_t len)
 }
 
 /* A sheet, then the same sheet damaged. */
-static void try_sheet(struct bytes ticket, const uint8_t *sheet, size_t len)
+static void try_sheet(struct part part, const uint8_t *sheet, size_t len)
 {
     memcpy(kept.bytes[kept.how_many], sheet, len);
-    try_kept(ticket, len);
+    try_kept(part, len);
     memcpy(kept.bytes[kept.how_many], sheet, len);
-    try_kept(ticket, damage_sheet(&run.chance, kept.bytes[kept.how_many], len));
+    try_kept(part, damage_sheet(&run.chance, kept.bytes[kept.how_many], len));
 }
 
 /* A schedule drawn by chance, as it is and with some actions changed. */
-static void try_schedule(struct bytes ticket, const struct ref_job *job, enum ending ending)
+static void try_schedule(struct part part, const struct ref_job *job, enum ending ending)
 {
     static struct ref_action schedule[REF_ROUNDS * REF_DISKS];
     static uint8_t sheet[REF_SHEET];
     unsigned rounds = draw_schedule(&run.chance, job, ending, schedule);
     size_t len = ref_write_sheet(schedule, rounds, job->disks, sheet, sizeof sheet);
 
-    try_sheet(ticket, sheet, len);
+    try_sheet(part, sheet, len);
     spoil_schedule(&run.chance, job, schedule, rounds);
     len = ref_write_sheet(schedule, rounds, job->disks, sheet, sizeof sheet);
-    try_sheet(ticket, sheet, len);
+    try_sheet(part, sheet, len);
 }
 
 static struct checked one_of(const struct checked *sheets, unsigned how_many)
@@ -379,17 +484,19 @@ static struct checked one_of(const struct checked *sheets, unsigned how_many)
     return sheets[below(&run.chance, how_many)];
 }
 
-static struct checked checked_for(struct bytes ticket, struct checked c)
+static struct checked checked_for(struct part part, struct checked c)
 {
-    c.number = ref_check(ticket.at, ticket.len, c.sheet.at, c.sheet.len, &c.counts);
+    c.number = ref_check(part.ticket.at, part.ticket.len, part.stop, c.sheet.at, c.sheet.len,
+                         &c.counts);
     return c;
 }
 
 /* Choices between the kept sheets: the short plan's and one that passes, one that passes and any,
- * any two, and any two for the damaged ticket. */
-static void try_choices(struct bytes ticket, struct bytes worse)
+ * any two; and any two for the damaged ticket, and for a stop above N. */
+static void try_choices(struct part part, struct part worse, struct part above)
 {
-    for (unsigned k = 0; k < 4; k++) {
+    for (unsigned k = 0; k < 5; k++) {
+        struct part other = k == 3 ? worse : above;
         struct checked first = k == 0 ? kept.all[0]
                              : k == 1 ? one_of(kept.passed, kept.passes)
                              : one_of(kept.all, kept.how_many);
@@ -397,48 +504,93 @@ static void try_choices(struct bytes ticket, struct bytes worse)
                                        : one_of(kept.all, kept.how_many);
 
         if (k < 3)
-            try_choose(ticket, first, second);
+            try_choose(part, first, second);
         else
-            try_choose(worse, checked_for(worse, first), checked_for(worse, second));
+            try_choose(other, checked_for(other, first), checked_for(other, second));
     }
+}
+
+/* A sheet of a plan for a later stop up to an earlier one, which passes, and the reverse. */
+static void try_two_stops(struct part part, const struct ref_job *job)
+{
+    static uint8_t sheet[2][2][REF_SHEET];     /* by stop and rule */
+    bool ends = part.stop == job->references;
+    unsigned rule = below(&run.chance, 2);
+    struct part of[2] = {part, part};          /* the earlier, the later */
+    struct ref_planned planned[2];
+    struct bytes s[2];
+
+    of[!ends].stop = ends ? below(&run.chance, job->references)
+                          : between(&run.chance, (unsigned)part.stop + 1, job->references);
+    for (unsigned k = 0; k < 2; k++) {
+        if (ref_plan(part.ticket.at, part.ticket.len, of[k].stop, sheet[k][0], REF_SHEET,
+                     sheet[k][1], REF_SHEET, &planned[k]) != 0)
+            exit(2);
+        s[k] = (struct bytes){sheet[k][rule], planned[k].sheet_length[rule]};
+    }
+    if (try_check(of[0], s[1]).number != 0) {
+        printf("DISAGREE: a sheet for the stop %zu is refused up to %zu\n", of[1].stop, of[0].stop);
+        say_replay();
+        exit(1);
+    }
+    run.later++;
+    run.earlier[try_check(of[1], s[0]).number != 0]++;
+}
+
+/* Planning and choices, and for the damaged ticket and for a stop above N the check too. */
+static void try_parts(struct part part, struct part worse, struct part above,
+                      const struct ref_planned *planned)
+{
+    size_t ns = planned->sheet_length[REF_P_MIN], np = planned->sheet_length[REF_P_CON];
+
+    try_rooms(part, ns, np);
+    try_plan(worse, ns, np);
+    try_room(above, ns, np);
+    try_check(worse, kept.all[2].sheet);
+    try_check(above, one_of(kept.all, kept.how_many).sheet);
+    try_choices(part, worse, above);
 }
 
 static void try_job(uint64_t number)
 {
-    static uint8_t ticket[REF_TICKET], worse[REF_TICKET + SPARE], sheets[2][REF_SHEET];
+    static uint8_t ticket[REF_TICKET], bad[REF_TICKET + SPARE], sheets[2][REF_SHEET];
     static struct ref_job job;
     struct ref_planned planned;
-    struct bytes t = {ticket, 0}, w = {worse, 0};
+    struct part part = {{ticket, 0}, 0}, worse = {{bad, 0}, 0}, above;
 
     run.job = number;
     run.chance = chance_for(run.seed, number);
     kept.how_many = kept.passes = 0;
     draw_job(&run.chance, &job);
-    t.len = ref_write_ticket(&job, ticket, sizeof ticket);
-    if (ref_plan(ticket, t.len, sheets[0], REF_SHEET, sheets[1], REF_SHEET, &planned) != 0)
+    part.ticket.len = ref_write_ticket(&job, ticket, sizeof ticket);
+    part.stop = draw_stop(&run.chance, job.references);
+    above = (struct part){part.ticket, draw_stop_above(&run.chance, job.references)};
+    job.stop = (unsigned)part.stop;
+    if (ref_plan(ticket, part.ticket.len, part.stop, sheets[0], REF_SHEET, sheets[1], REF_SHEET,
+                 &planned) != 0)
         exit(2);
-    try_rooms(t, planned.sheet_length[0], planned.sheet_length[1]);
-    try_sheet(t, sheets[0], planned.sheet_length[0]);
-    try_sheet(t, sheets[1], planned.sheet_length[1]);
+    for (int k = 0; k < 2; k++)
+        try_sheet(part, sheets[k], planned.sheet_length[k]);
     for (int ending = FINISHED; ending <= UNFINISHED; ending++)
-        try_schedule(t, &job, (enum ending)ending);
-    memcpy(worse, ticket, t.len);
-    w.len = damage_ticket(&run.chance, &job, worse, t.len);
-    try_plan(w, planned.sheet_length[0], planned.sheet_length[1]);
-    try_check(w, (struct bytes){sheets[1], planned.sheet_length[1]});
-    try_choices(t, w);
+        try_schedule(part, &job, (enum ending)ending);
+    memcpy(bad, ticket, part.ticket.len);
+    worse.ticket.len = damage_ticket(&run.chance, &job, bad, part.ticket.len);
+    worse.stop = one_in(&run.chance, 2) ? part.stop : above.stop;
+    try_parts(part, worse, above, &planned);
+    try_two_stops(part, &job);
+    try_reading(part.ticket, worse.ticket, &job);
 }
 
-/* Planning returns 0 to 8, 17 and 18; the check and the choice 0 to 16 and 20, by the second sheet
- * alone 9 to 16 and 20. */
+/* Planning returns 0 to 8, 21, 17 and 18; the check and the choice 0 to 8, 21, 9 to 16 and 20, by
+ * the second sheet alone 9 to 16 and 20. */
 static bool can_return(enum call call, unsigned number)
 {
     bool of_a_sheet = (number >= 9 && number <= 16) || number == 20;
 
     switch (call) {
-    case PLAN: return number <= 8 || number == 17 || number == 18;
+    case PLAN: return number <= 8 || number == 17 || number == 18 || number == 21;
     case CHOOSE_SECOND: return of_a_sheet;
-    default: return number <= 8 || of_a_sheet;
+    default: return number <= 8 || number == 21 || of_a_sheet;
     }
 }
 
@@ -459,6 +611,36 @@ static bool all_met(enum call call)
     return all;
 }
 
+/* The same of stops, for a call that has one of its own. */
+static bool all_stops_met(enum call call)
+{
+    bool all = run.ticket_first[call] > 0;
+
+    printf("  stops of %s:", call_name[call]);
+    for (unsigned k = 0; k < KINDS; k++) {
+        printf(" %s %lu,", kind_name[k], run.stops[call][k]);
+        all = all && run.stops[call][k] > 0;
+    }
+    printf(" above N for a refused ticket %lu\n", run.ticket_first[call]);
+    return all;
+}
+
+/* The same of what neither numbers nor stops show. */
+static bool all_else_met(void)
+{
+    printf("  sheets for a later stop passed %lu, for an earlier one %lu, and %lu were refused\n",
+           run.later, run.earlier[0], run.earlier[1]);
+    printf("  N read from sound tickets %lu, other bytes %lu, bytes that give 0 %lu\n",
+           run.reads[SOUND], run.reads[OTHER], run.reads[ZERO]);
+    printf("  plans marked short %lu, sparing %lu; sheets passed %lu\n", run.marks[REF_P_MIN],
+           run.marks[REF_P_CON], run.passes);
+    printf("  first sheets chosen %lu, second %lu; of equal rounds %lu, the same sheet twice %lu\n",
+           run.chosen[0], run.chosen[1], run.equal, run.same);
+    return run.later > 0 && run.earlier[0] > 0 && run.earlier[1] > 0 && run.reads[SOUND] > 0 &&
+           run.reads[OTHER] > 0 && run.reads[ZERO] > 0 && run.chosen[0] > 0 &&
+           run.chosen[1] > 0 && run.equal > 0 && run.same > 0;
+}
+
 int main(int argc, char **argv)
 {
     uint64_t count = argc > 2 ? strtoull(argv[2], NULL, 10) : 20000;
@@ -476,12 +658,11 @@ int main(int argc, char **argv)
     printf("%" PRIu64 " jobs agree (seed %" PRIu64 "); numbers met:\n", count, run.seed);
     for (int call = PLAN; call < CALLS; call++)
         all = all_met((enum call)call) && all;
-    printf("  plans marked short %lu, sparing %lu; sheets passed %lu\n", run.marks[REF_P_MIN],
-           run.marks[REF_P_CON], run.passes);
-    printf("  first sheets chosen %lu, second %lu; of equal rounds %lu, the same sheet twice %lu\n",
-           run.chosen[0], run.chosen[1], run.equal, run.same);
-    all = all && run.chosen[0] > 0 && run.chosen[1] > 0 && run.equal > 0 && run.same > 0;
+    for (int call = PLAN; call <= CHOOSE; call++)
+        all = all_stops_met((enum call)call) && all;
+    all = all_else_met() && all;
     if (!all && first == 0)
-        printf("FAIL: a number, a length of the counts slice or a kind of choice was never met\n");
+        printf("FAIL: a number, a length of the counts slice, a kind of stop, of sheet, of choice or "
+               "of bytes was never met\n");
     return all || first != 0 ? 0 : 1;
 }

@@ -1,4 +1,4 @@
-/* draw.c - jobs, schedules and damage drawn by chance. */
+/* draw.c - jobs, stops, schedules and damage drawn by chance. */
 #include "draw.h"
 
 #include <string.h>
@@ -123,7 +123,7 @@ void draw_job(struct chance *c, struct ref_job *job)
     draw_slots(c, s, job);
     job->blocks = draw_size(c, 1, s->blocks, s->exactly);
     draw_places(c, job);
-    job->references = draw_size(c, 0, s->references, s->exactly);
+    job->references = job->stop = draw_size(c, 0, s->references, s->exactly);
     draw_references(c, job);
 }
 
@@ -133,7 +133,7 @@ void draw_longest(struct chance *c, struct ref_job *job)
 
     job->disks = REF_DISKS;
     job->blocks = REF_BLOCKS;
-    job->references = REF_REFERENCES;
+    job->references = job->stop = REF_REFERENCES;
     for (unsigned d = 0; d < job->disks; d++)
         job->slots[d] = 1;
     for (unsigned b = 0; b < job->blocks; b++)
@@ -141,6 +141,37 @@ void draw_longest(struct chance *c, struct ref_job *job)
     for (unsigned i = 0; i < job->references; i++) {
         last = (last + between(c, 1, REF_BLOCKS - 1)) % REF_BLOCKS;
         job->reference[i] = (uint16_t)last;
+    }
+}
+
+/* ---- Stops ---- */
+
+size_t draw_stop(struct chance *c, unsigned references)
+{
+    switch (below(c, 8)) {
+    case 0: return 0;
+    case 1: return references == 0 ? 0 : references - 1;
+    case 2:
+    case 3:
+    case 4: return between(c, 0, references);
+    default: return references;
+    }
+}
+
+size_t draw_stop_above(struct chance *c, unsigned references)
+{
+    size_t not_above = between(c, 0, references);
+    size_t high = between(c, 1, UINT16_MAX);
+
+    switch (below(c, 8)) {
+    case 0:
+    case 1: return references + 1u;
+    case 2: return SIZE_MAX;
+    case 3: return high << 16 | not_above;
+    case 4: return high << 32 | not_above;
+    case 5: return high << 48 | not_above;
+    case 6: return references + high;
+    default: return high << 16 | below(c, UINT16_MAX + 1);
     }
 }
 
@@ -173,7 +204,7 @@ static unsigned some_block(struct chance *c, const struct run *run, unsigned d, 
 /* The block of disk d, outside the buffer, that is due first; else any outside. */
 static unsigned due_block(struct chance *c, const struct run *run, unsigned d)
 {
-    for (unsigned i = run->next_read; i < run->job->references; i++) {
+    for (unsigned i = run->next_read; i < run->job->stop; i++) {
         unsigned b = run->job->reference[i];
 
         if (run->job->disk[b] == d && !run->in[b])
@@ -187,10 +218,10 @@ static unsigned due_in(const struct run *run, unsigned b)
 {
     unsigned k = 0;
 
-    while (k < 100 && run->next_read + k < run->job->references &&
+    while (k < 100 && run->next_read + k < run->job->stop &&
            run->job->reference[run->next_read + k] != b)
         k++;
-    return run->next_read + k < run->job->references ? k : 100;
+    return run->next_read + k < run->job->stop ? k : 100;
 }
 
 /* A buffered block of disk d to discard: the last due of a few. */
@@ -234,7 +265,7 @@ static void play_round(struct chance *c, struct run *run, bool demand, struct re
     unsigned next = run->next_read;
 
     for (unsigned d = 0; d < job->disks; d++) {
-        bool demanded = demand && next < job->references && job->disk[job->reference[next]] == d;
+        bool demanded = demand && next < job->stop && job->disk[job->reference[next]] == d;
         struct ref_action a = draw_action(c, run, d, demanded);
 
         if (a.discard != REF_NONE)
@@ -244,7 +275,7 @@ static void play_round(struct chance *c, struct run *run, bool demand, struct re
         run->held[d] += (a.fetch != REF_NONE) - (a.discard != REF_NONE);
         actions[d] = a;
     }
-    while (run->next_read < job->references && run->in[job->reference[run->next_read]])
+    while (run->next_read < job->stop && run->in[job->reference[run->next_read]])
         run->next_read++;
 }
 
@@ -257,8 +288,8 @@ unsigned draw_schedule(struct chance *c, const struct ref_job *job, enum ending 
     run.wise = one_in(c, 2) ? 1 : between(c, 2, 4);
     run.beside_empty = one_in(c, 5) ? between(c, 1, 100) : SELDOM;
     run.idle = one_in(c, run.wise > 1 ? 2 : 5) ? SELDOM : between(c, 1, 6);
-    while (run.next_read < job->references) {
-        bool must = REF_ROUNDS - rounds <= job->references - run.next_read;
+    while (run.next_read < job->stop) {
+        bool must = REF_ROUNDS - rounds <= job->stop - run.next_read;
 
         play_round(c, &run, must || run.wise > 1 || !one_in(c, lazy),
                    schedule + rounds * job->disks);

@@ -1,21 +1,29 @@
-/* draw.h - jobs, schedules and damage drawn by chance. */
+/* draw.h - jobs, stops, schedules and damage drawn by chance. */
 #ifndef DRAW_H
 #define DRAW_H
 
 #include "reference/chance.h"
 #include "reference/reference.h"
 
-/* A job within document 01's limits: mostly small, now and then at the very limits. */
+/* A job within document 01's limits: mostly small, now and then at the very limits. Its stop is N. */
 void draw_job(struct chance *c, struct ref_job *job);
 
 /* A job with the longest ticket and the longest page, 2,048 rounds on eight disks: all references
  * are to the last disk, which has one slot, and no two in a row are to the same block. */
 void draw_longest(struct chance *c, struct ref_job *job);
 
-/* A schedule of allowed actions, but that one in five may discard beside an empty slot, which the
+/* A stop for a job of so many references: often all of them, else any number, 0 and all but one more
+ * often than others. */
+size_t draw_stop(struct chance *c, unsigned references);
+
+/* A stop above so many references: the next number, the largest, one whose last 16 or 32 bits alone
+ * are not above, or any. */
+size_t draw_stop_above(struct chance *c, unsigned references);
+
+/* A schedule of allowed actions up to the job's stop, but that one in five may discard beside an empty slot, which the
  * check refuses; gives its rounds, at most REF_ROUNDS.
- * FINISHED ends with the round that consumes the last reference, LATE has rounds after it,
- * UNFINISHED leaves references (unless there are none). */
+ * FINISHED ends with the round that consumes the last reference before the stop, LATE has rounds
+ * after it, UNFINISHED leaves references (unless there are none). */
 enum ending { FINISHED, LATE, UNFINISHED };
 unsigned draw_schedule(struct chance *c, const struct ref_job *job, enum ending ending,
                        struct ref_action *schedule);

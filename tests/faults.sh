@@ -1,7 +1,7 @@
 # faults.sh - libraries with a fault, each of which the differential test must catch.
 #
 # usage: sh faults.sh BUILD     (BUILD has differential.o, draw.o, chance.o and reference.o)
-# A library here is standin.c over reference.c, both changed by a sed script, in BUILD/fault.
+# A library here is standin.c over reference.c, both changed by a sed script, in BUILD/fault; or planner.h is changed.
 cd "$(dirname "$0")" || exit 2
 cc=${CC:-cc}
 build=$1
@@ -9,13 +9,13 @@ dir=$build/fault
 missed=0
 tried=0
 
-# build SCRIPT - the differential test, linked with the changed library.
+# build SCRIPT [REFERENCE [TEST]] - the differential test, linked with the changed library.
 build() {
     rm -rf "$dir" && mkdir -p "$dir" || exit 2
     sed -E "$1" reference/reference.c >"$dir/reference.c"
     sed -E "$1" standin.c >"$dir/standin.c"
-    $cc -O1 -std=c11 "-I$dir" -Ireference -I../include -c "$dir/standin.c" -o "$dir/standin.o" &&
-        $cc "$build/differential.o" "$build/draw.o" "$build/chance.o" "${2:-$build/reference.o}" \
+    $cc -std=c11 "-I$dir" -Ireference -I../include -c "$dir/standin.c" -o "$dir/standin.o" &&
+        $cc "${3:-$build/differential.o}" "$build/draw.o" "$build/chance.o" "${2:-$build/reference.o}" \
             "$dir/standin.o" -o "$dir/differential"
 }
 
@@ -44,11 +44,25 @@ both() {
     tried=$((tried + 1))
     rm -rf "$dir.both" && mkdir -p "$dir.both" && sed -E "$3" reference/reference.c >"$dir.both/reference.c" || exit 2
     if cmp -s reference/reference.c "$dir.both/reference.c" ||
-        ! $cc -O1 -std=c11 -Ireference -c "$dir.both/reference.c" -o "$dir.both/reference.o" || ! build "$3" "$dir.both/reference.o"; then
+        ! $cc -std=c11 -Ireference -c "$dir.both/reference.c" -o "$dir.both/reference.o" || ! build "$3" "$dir.both/reference.o"; then
         echo "BROKEN  $1, on both sides"
         missed=$((missed + 1))
     else
         verdict "$1, on both sides" "$2"
+    fi
+}
+
+# header NAME WORDS SCRIPT - planner.h changed, and the test compiled with it.
+header() {
+    tried=$((tried + 1))
+    rm -rf "$dir.header" && mkdir -p "$dir.header" && sed -E "$3" ../include/planner.h >"$dir.header/planner.h" || exit 2
+    if cmp -s ../include/planner.h "$dir.header/planner.h" ||
+        ! $cc -std=c11 "-I$dir.header" -c differential.c -o "$dir.header/differential.o" ||
+        ! build '' "$build/reference.o" "$dir.header/differential.o"; then
+        echo "BROKEN  $1, in the header"
+        missed=$((missed + 1))
+    else
+        verdict "$1, in the header" "$2"
     fi
 }
 
@@ -58,7 +72,7 @@ build '' && "$dir/differential" 1 1000 >"$dir/report" || { cat "$dir/report"; ec
 [ $? -eq 1 ] && grep -q '^FAIL' "$dir/report" || { echo "one job is taken for enough"; exit 1; }
 
 # A plan that does not end is cut at N rounds: its sheet is then too long for the room.
-at_most_n='s/(begin\(job, &r\); r.next_read < job->references)(; schedule)/\1 \&\& counts->rounds < job->references\2/'
+at_most_n='s/(begin\(job, &r\); r.next_read < job->stop)(; schedule)/\1 \&\& counts->rounds < job->stop\2/'
 
 fault '14 not tested' 'reference 14' 's/return 14;/return 0;/'
 fault '20 not tested' 'number: library [01].*, reference 20' 's/return 20;/;/'
@@ -72,7 +86,7 @@ fault 'unfinished sheets pass' 'number: library 0, reference 15' 's/return 15;/r
 fault 'lowest number among several nevers' 'DISAGREE: s' 's/(distance\[b\] )>=( l->distance\[v->min_block)/\1>\2/'
 fault 'P-CON never waits' 'DISAGREE' 's/rule == REF_P_CON && waits/false \&\& waits/'
 fault 'positions in eight bits' 'number: library 17, reference 0' "/^static void build_lookup/,/^}/s/\\(uint16_t\\)/(uint8_t)/;$at_most_n"
-fault 'the position 2048 held as 0' 'number: library 17, reference 0' "s/\\(uint16_t\\)job->references/(uint16_t)(job->references % 2048)/;$at_most_n"
+fault 'the position 2048 held as 0' 'number: library 17, reference 0' "s/\\(uint16_t\\)job->stop/(uint16_t)(job->stop % 2048)/;$at_most_n"
 fault 'the mark of equal rounds' 'DISAGREE: counts' 's/p->mark = choice\(p->counts\)/p->mark = p->counts[1].rounds < p->counts[0].rounds/'
 fault '18 tested before 17' 'number: library 18, reference 17' \
     's/p->sheet_length\[k\] > room\[k\]/p->sheet_length[1 - k] > room[1 - k]/;s/return 17 \+ k/return 18 - k/'
@@ -85,7 +99,7 @@ fault 'a byte past the lent buffer changed' '(a guard)\|STOPPED' \
     '/^size_t ref_write_sheet/,/^}/s/memset\(buf, 0, len\)/memset(buf, 0, len == room ? len + 1 : len)/'
 fault 'a byte before the counts changed' '(a guard)' '/^uint32_t planner/,/^}/s/^    return number;/    if (counts_length > 0) counts[-1] ^= 1;\n&/'
 fault 'a byte past the ticket read' 'STOPPED' \
-    's/^(    struct reader r = \{ticket, n, 0\});/\1;\n    if (n > 0 \&\& ((const volatile uint8_t *)ticket)[n] == 255) job->disks = 1;/'
+    '/^static unsigned read_fields/,/^}/s/^(    struct reader r = \{ticket, n, 0\});/\1;\n    if (n > 0 \&\& ((const volatile uint8_t *)ticket)[n] == 255) job->disks = 1;/'
 fault 'a null counts slice read' 'STOPPED' \
     '/^uint32_t planner/,/^}/s/^    return number;/    if (counts == NULL \&\& *(volatile uint8_t *)counts == 0) return 1;\n&/'
 fault 'the ticket changed' 'DISAGREE: ticket' \
@@ -113,9 +127,72 @@ fault 'counts written by a refused choice' 'DISAGREE: counts' '/^uint32_t planne
 fault 'counts past the two numbers zeroed' 'DISAGREE: counts' \
     '/^uint32_t planner_choose/,/^}/s/^    return number;/    for (size_t k = 4; number == 0 \&\& k < counts_length; k++)\n        counts[k] = 0;\n&/'
 
+# The stop
+in_reading='/^unsigned ref_read_ticket/,/^}/'
+in_lookup='/^static void build_lookup/,/^}/'
+no_never="${in_lookup}s/job->stop/job->references/;/^static void survey/,/^}/s/job->stop/job->references/"
+
+# counted EXPRESSION - the script that has so many references count.
+counted() {
+    printf '%ss/^    job->stop = .*/    job->stop = %s;/' "$in_reading" "$1"
+}
+
+# refused EXPRESSION - the script that has 21 returned where this holds; else a stop above N is N.
+refused() {
+    printf '%s{s/^    if \\(stop > job->references\\)/    if (%s)/;s/= \\(unsigned\\)stop;/= stop < job->references ? (unsigned)stop : job->references;/}' \
+        "$in_reading" "$1"
+}
+
+# first_of NUMBER - the script that has 21 tested before this number of the ticket.
+first_of() {
+    printf '%ss/^    if \\(number != 0\\)$/    if (number == %s \\&\\& stop > ref_references(ticket, n)) return 21;\\n&/' "$in_reading" "$1"
+}
+
+# before FUNCTION CONDITION NUMBER - the script that has this number come before 21 in the function.
+before() {
+    printf '/^unsigned %s/,/^}/s/^    memset\\(out, 0, .*/&\\n    if (number == 21 \\&\\& %s) return %s;/' "$1" "$2" "$3"
+}
+
+fault 'the stop not looked at' 'DISAGREE' "$(counted 'job->references')"
+fault 'the reference at the stop counts too' 'DISAGREE' "$(counted '(unsigned)stop + (stop < job->references)')"
+fault 'the last reference before the stop does not count' 'DISAGREE' "$(counted '(unsigned)stop - (stop > 0)')"
+fault 'a stop of 0 is the whole job' 'DISAGREE' "$(counted 'stop > 0 ? (unsigned)stop : job->references')"
+fault 'no stop refused' 'reference 21' "$(refused false)"
+fault 'a stop of N + 1 accepted' 'reference 21' "$(refused 'stop > job->references + 1')"
+fault 'a stop above 2048 alone refused' 'reference 21' "$(refused 'stop > REF_REFERENCES')"
+fault 'the largest stop accepted' 'reference 21' "$(refused 'stop > job->references \&\& stop != SIZE_MAX')"
+fault 'a stop of N refused' 'number: library 21, reference' "$(refused 'stop >= job->references')"
+fault 'a reference past the stop is no never' 'DISAGREE' "$no_never"
+fault 'the min-block by references past the stop' 'DISAGREE: s' "${in_lookup}s/job->stop/job->references/"
+fault 'planning up to N' 'DISAGREE' '/^static unsigned draw_up/,/^}/s/^        ref_run\(/        drawn->job.stop = drawn->job.references;\n&/'
+fault 'the check up to N' 'number: library 15, reference 0' '/^unsigned ref_check/,/^}/s/number = check_sheet/job.stop = job.references, &/'
+for k in 0 1; do
+    fault "sheet $k of a choice up to N" 'number: library 15, reference 0' \
+        "/^unsigned ref_choose/,/^}/s/number = check_sheet/job.stop = k == $k ? job.references : (unsigned)stop, &/"
+done
+for call in plan check choose; do
+    for bits in 16 32; do
+        fault "$bits bits of the stop in planner_$call" 'reference 21' \
+            "/^uint32_t planner_$call/,/^}/s/ticket_length, stop,/ticket_length, (uint${bits}_t)stop,/"
+    done
+done
+fault '21 tested before 1' 'number: library 21, reference 1$' "$(first_of 1)"
+fault '21 tested before 8' 'number: library 21, reference 8' "$(first_of 8)"
+fault '21 tested after 17' 'number: library 17, reference 21' "$(before ref_plan 'ns < 2' 17)"
+fault '21 tested after 18' 'number: library 18, reference 21' "$(before ref_plan 'np < 2' 18)"
+fault '21 tested after 9' 'number: library 9, reference 21' "$(before ref_check 'm < 2' 9)"
+fault '21 tested after 9 of the first sheet' 'number: library 9, reference 21' "$(before ref_choose 'm1 < 2' 9)"
+fault '21 tested after 9 of the second sheet' 'number: library 9, reference 21' "$(before ref_choose 'm2 < 2' 9)"
+
 # Demand 3: a sheet beats the wrong plan.
 on_demand='if (view[d].u != REF_NONE \&\& r->l.distance[view[d].u] != before) view[d].u = REF_NONE;'
 both 'demand-only fetching' 'beats a plan (demand 3)' "s/^    survey\\(.*/&\\nfor (unsigned d = 0; d < job->disks; d++) $on_demand/"
+
+both 'a reference past the stop is no never' 'beats a plan (demand 3)' "$no_never"
+
+# A sheet for a later stop passes up to an earlier one.
+both 'no rounds after the stop is reached' 'is refused up to' \
+    '/^static unsigned check_rounds/,/^}/s/^        next_read = consume.*/        if (next_read == job->stop \&\& next_read < job->references) return 15;\n&/'
 
 # What is promised of the choice
 both 'the second checked first' 'another number than the check' "$second_first"
@@ -124,6 +201,15 @@ both 'always the first' 'takes more rounds than the other' 's/out->which = choic
 both "always the second after the short plan's rounds" 'one with other rounds is handed back' \
     's/^    out->which = choice\(counts\);/    struct ref_action a[REF_ROUNDS * REF_DISKS];\n    struct ref_counts c;\n'\
 '    ref_run(\&job, REF_P_MIN, a, \&c);\n    out->which = c.rounds == counts[0].rounds ? 1 : choice(counts);/'
+
+# The number of references, as the header reads it
+header 'N a bit too early' 'planner_references gives' 's/14 \+ 7 \* disks/13 + 7 * disks/'
+header 'three bits of D' 'planner_references gives' 's/ticket_length, 0, 4\)/ticket_length, 1, 3)/'
+header 'nine bits of B' 'planner_references gives' 's/4 \+ 7 \* disks, 10\)/5 + 7 * disks, 9)/'
+header 'eleven bits of N' 'planner_references gives' 's/(14 \+ 7 .* \* blocks), 12\)/1 + \1, 11)/'
+header 'the bits there are, where the bytes end' 'planner_references gives' 's/^            return 0;/            return value;/'
+header 'one block is passed over too many' 'planner_references gives' 's/3 \* blocks, 12\)/3 * blocks + 3, 12)/'
+header 'a byte past the ticket read' 'planner_references gives\|STOPPED' 's/bit \/ 8 >= ticket_length/bit \/ 8 > ticket_length/'
 
 echo "$tried faults, $missed not caught"
 [ "$missed" -eq 0 ]

@@ -76,12 +76,25 @@ fault 'no legend for no rounds' "$another" 's/^    put_legend\(page\);/    if (r
 # The rooms
 fault '19 before 18' 'reference 18' \
     "${in_page}s/^    if \\(number != 0\\)\$/    if (number == 18 \\&\\& ng < 100) return 19;\\n&/"
-fault '18 not tested with a page' 'reference 18' "${in_page}s/draw_up\\(ticket, n, room/draw_up(ticket, n, (const size_t[]){ns, REF_SHEET}/"
+fault '18 not tested with a page' 'reference 18' "${in_page}s/draw_up\\(ticket, n, stop, room/draw_up(ticket, n, stop, (const size_t[]){ns, REF_SHEET}/"
 fault '19 for an exact room' 'cases     19' 's/if \(length > ng\)/if (length >= ng)/'
 fault 'no 19 for a room one byte short' 'reference 19' 's/if \(length > ng\)/if (length > ng + 1)/'
 fault 'sheets written although 19' "$another" 's/^    if \(length > ng\)/    write_sheets(\&drawn, buffer, room);\n&/'
 fault 'a byte past the page changed' "$another" 's/^    write_page\(&drawn.*/&\n    if (length < ng) page[length] = 10;/'
 fault 'the last sixteen bits of the length' "$another" 's/out->length = length/out->length = length % 65536/'
+
+# The stop
+in_reading='/^unsigned ref_read_ticket/,/^}/'
+fault 'the stop not looked at' "$another" "${in_reading}s/^    job->stop = .*/    job->stop = job->references;/"
+fault 'the reference at the stop counts too' "$another" "${in_reading}s/^    job->stop = .*/    job->stop = (unsigned)stop + (stop < job->references);/"
+fault 'the page up to N' "$another" 's/^    write_page\(/    if (ng >= REF_PAGE) drawn.job.stop = drawn.job.references;\n&/'
+fault 'a stop above N is N' 'reference 21' "${in_reading}s/return 21;/stop = job->references;/"
+fault 'a stop of N refused' 'cases     21' "${in_reading}s/stop > job->references/stop >= job->references/"
+fault '32 bits of the stop' 'reference 21' 's/\(size_t\)number;/(uint32_t)number;/'
+fault '16 bits of the stop' 'reference 21' "${in_reading}s/^    unsigned number = /    stop = (uint16_t)stop;\\n&/"
+fault '21 before 8' 'cases     21' "${in_reading}s/^    if \\(number != 0\\)\$/    if (number == 8 \\&\\& stop > ref_references(ticket, n)) return 21;\\n&/"
+fault '21 after 17' 'reference 21' "${in_page}s/^    if \\(number != 0\\)\$/    if (number == 21 \\&\\& ns < 2) return 17;\\n&/"
+fault '21 after 19' 'reference 21' "${in_page}s/^    if \\(number != 0\\)\$/    if (number == 21 \\&\\& ng < 85) return 19;\\n&/"
 
 # The program `cases` alone
 fault 'the last byte of a page not written' "$another" 's/page.at, p.length\);$/page.at, p.length - 1);/'
@@ -97,11 +110,13 @@ fault 'a page without its last line feed' 'page prints' 's/fwrite\(text, 1, page
 fault 'a line more after the page' 'page prints' 's/^(        fwrite\(text.*);/\1, puts("");/'
 fault 'no more than 278,612 bytes printed' '278613; byte 278612 differs' \
     's/fwrite\(text, 1, paged.length/fwrite(text, 1, paged.length < REF_PAGE ? paged.length : REF_PAGE - 1/'
-fault 'room for all pages but the longest' 'page prints 11 bytes' 's/sheet\[1\], REF_SHEET, text, REF_PAGE,/sheet[1], REF_SHEET, text, REF_PAGE - 1,/'
+fault 'room for all pages but the longest' 'page prints 11 bytes' 's/REF_SHEET, text, REF_PAGE,/REF_SHEET, text, REF_PAGE - 1,/'
 fault 'no line feed after a refusal' 'page prints 9 bytes, the reference has 10' 's/"refused %u.n"/"refused %u"/'
 fault 'another number' 'page prints 10 bytes, the reference has 10' 's/printf\("refused %u.n", number\)/printf("refused %u\\n", number == 8 ? 1 : number)/'
 fault 'a longer input cut to the longest ticket' 'page prints 278613 bytes, the reference has 10' 's/ticket\[REF_TICKET \+ 1\]/ticket[REF_TICKET]/'
 fault 'a status that is not 0' 'page ends with status 3' 's/^        page\(\);/        return page(), 3;/'
+fault 'no reference counts' 'page prints' 's/ref_page\(ticket, n, ref_references\(ticket, n\)/ref_page(ticket, n, 0/'
+fault 'all references but one count' 'page prints' 's/ref_page\(ticket, n, ref_references\(ticket, n\)/ref_page(ticket, n, ref_references(ticket, n) - 1/'
 
 echo "$tried faults of pages, $missed not caught"
 [ "$missed" -eq 0 ]

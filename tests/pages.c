@@ -2,11 +2,11 @@
  *
  * usage: pages CASES PAGE [SEED [COUNT [FIRST]]]
  * Draws COUNT jobs from number FIRST on (default 0). CASES gets lines `page` of the vectors' form,
- * three for each job, and three of the longest page; PAGE gets the tickets of the first jobs, the
- * longest page's, and inputs that are longer than a ticket. Stops at the first answer that is not
- * the reference's. Every job's draws depend on the seed and its own number only, so "SEED 1 FIRST"
- * replays one job, and "SEED 0" what is tried without a job. Exit 0 only if all agree and, in a run
- * of jobs from 0 on, every number, letter and mark was met. */
+ * four for each job, and four of the longest page; PAGE, whose stop is N, gets the tickets of the
+ * first jobs, the longest page's, and inputs that are longer than a ticket. Ends at the first answer
+ * that is not the reference's. Every job's draws depend on the seed and its own number only, so
+ * "SEED 1 FIRST" replays one job, and "SEED 0" what is tried without a job. Exit 0 only if all agree
+ * and, in a run of jobs from 0 on, every number, kind of stop, letter and mark was met. */
 #define _POSIX_C_SOURCE 200809L
 #include "draw.h"
 #include "reference/answer.h"
@@ -19,13 +19,16 @@
 #include <sys/wait.h>
 #include <unistd.h>
 
-enum { LINES = 3, NUMBERS = 20, LETTERS = 5 };
+enum { LINES = 4, NUMBERS = 22, LETTERS = 5 };
 enum { PROGRAM_JOBS = 150 };   /* the program `page` gets the tickets of so many jobs */
 enum { LONGER = 100000 };      /* and so many bytes past a ticket */
 enum { NO_JOB = -1 };          /* what is tried without a job */
 enum { WAIT_SECONDS = 60 };        /* seconds to wait for an answer */
 
+enum kind { NONE, BETWEEN, WHOLE, ABOVE, KINDS };      /* stops: 0, in between, N, above N */
+
 static const char letters[LETTERS + 1] = "EMSWN";
+static const char *const kind_name[KINDS] = {"0", "in between", "N", "above N"};
 
 static struct {
     const char *cases, *page;
@@ -33,6 +36,7 @@ static struct {
     int64_t job;
     pid_t program;             /* the one that is running, or 0 */
     unsigned long met[2][NUMBERS];             /* numbers, by cases and by page */
+    unsigned long stops[KINDS];                /* of cases, where the answer is 0 or 21 */
     unsigned long letter[LETTERS], mark[2];    /* on the pages of cases */
 } run;
 
@@ -113,15 +117,15 @@ struct bytes {
     size_t len;
 };
 
-/* A page asked for: a ticket, and rooms for both sheets and the page. */
+/* A page asked for: a ticket, a stop, and rooms for both sheets and the page. */
 struct asked {
     struct bytes ticket;
-    size_t room[3];
+    size_t stop, room[3];
 };
 
 static struct {
     uint8_t ticket[REF_TICKET], worse[REF_TICKET + SPARE], sheet[2][REF_SHEET], page[REF_PAGE];
-    struct ref_paged paged;    /* of the ticket as it is */
+    struct ref_paged paged;    /* of the ticket as it is, up to the first line's stop */
     struct asked asked[LINES];
 } drawn;
 
@@ -144,40 +148,45 @@ static void draw_rooms(struct chance *c, const size_t *exact, size_t *room)
     }
 }
 
-/* Plans the ticket, for the rooms; the number must be 0. */
-static void plan_drawn(size_t n, size_t *exact)
+/* Plans the ticket up to a stop, for the rooms; the number must be 0. */
+static void plan_drawn(size_t n, size_t stop, size_t *exact)
 {
     struct ref_paged *p = &drawn.paged;
 
-    if (ref_page(drawn.ticket, n, drawn.sheet[0], REF_SHEET, drawn.sheet[1], REF_SHEET, drawn.page,
-                 REF_PAGE, p) != 0)
+    if (ref_page(drawn.ticket, n, stop, drawn.sheet[0], REF_SHEET, drawn.sheet[1], REF_SHEET,
+                 drawn.page, REF_PAGE, p) != 0)
         exit(2);
     exact[0] = p->planned.sheet_length[0];
     exact[1] = p->planned.sheet_length[1];
     exact[2] = p->length;
 }
 
-/* A job's lines: exact rooms, other rooms, and the ticket damaged. */
+/* A job's lines: exact rooms, other rooms, a stop above N, and the ticket damaged, with a stop that
+ * may be above N. */
 static void draw_lines(uint64_t number)
 {
     struct chance c = chance_for(run.seed, number);
     static struct ref_job job;
     struct bytes good = {drawn.ticket, 0}, worse = {drawn.worse, 0};
-    size_t exact[3];
+    size_t exact[3], stop, above;
 
     draw_job(&c, &job);
     good.len = ref_write_ticket(&job, drawn.ticket, sizeof drawn.ticket);
-    plan_drawn(good.len, exact);
+    stop = draw_stop(&c, job.references);
+    above = draw_stop_above(&c, job.references);
+    plan_drawn(good.len, stop, exact);
     memcpy(drawn.worse, drawn.ticket, good.len);
     worse.len = damage_ticket(&c, &job, drawn.worse, good.len);
-    for (unsigned k = 0; k < LINES; k++)
-        drawn.asked[k].ticket = k == 2 ? worse : good;
     memcpy(drawn.asked[0].room, exact, sizeof exact);
-    draw_rooms(&c, exact, drawn.asked[1].room);
-    draw_rooms(&c, exact, drawn.asked[2].room);
+    for (unsigned k = 0; k < LINES; k++) {
+        drawn.asked[k].ticket = k == 3 ? worse : good;
+        drawn.asked[k].stop = k == 2 || (k == 3 && one_in(&c, 2)) ? above : stop;
+        if (k > 0)
+            draw_rooms(&c, exact, drawn.asked[k].room);
+    }
 }
 
-/* The lines of the longest page: exact rooms; 19; 18. */
+/* The lines of the longest page: exact rooms; 19; 18; 21. */
 static void draw_longest_lines(void)
 {
     struct chance c = chance_for(run.seed, 0);
@@ -186,13 +195,14 @@ static void draw_longest_lines(void)
 
     draw_longest(&c, &job);
     n = ref_write_ticket(&job, drawn.ticket, sizeof drawn.ticket);
-    plan_drawn(n, exact);
+    plan_drawn(n, job.stop, exact);
     if (n != REF_TICKET || exact[2] != REF_PAGE)
         exit(2);
     for (unsigned k = 0; k < LINES; k++) {
         drawn.asked[k].ticket = (struct bytes){drawn.ticket, n};
+        drawn.asked[k].stop = job.stop + (k == 3);
         drawn.asked[k].room[0] = exact[0];
-        drawn.asked[k].room[1] = exact[1] - (k == 2);
+        drawn.asked[k].room[1] = exact[1] - (k > 1);
         drawn.asked[k].room[2] = exact[2] - (k > 0);
     }
 }
@@ -203,7 +213,7 @@ static char *put_call(char *to, const struct asked *a)
 {
     to += sprintf(to, "page %s", a->ticket.len == 0 ? "-" : "");
     to = put_hex(to, a->ticket.at, a->ticket.len);
-    return to + sprintf(to, " %zu %zu %zu", a->room[0], a->room[1], a->room[2]);
+    return to + sprintf(to, " %zu %zu %zu %zu", a->stop, a->room[0], a->room[1], a->room[2]);
 }
 
 /* Does the same for the lines of each job, and then for those of the longest page. */
@@ -231,12 +241,23 @@ static void write_line(const struct asked *a, FILE *file)
     fprintf(file, "%s\n", call);
 }
 
-/* Counts the answer's number; and of a page with exact rooms, the mark and the letters. */
+static enum kind kind_of(const struct asked *a)
+{
+    unsigned references = ref_references(a->ticket.at, a->ticket.len);
+
+    if (a->stop >= references)
+        return a->stop == references ? WHOLE : ABOVE;
+    return a->stop == 0 ? NONE : BETWEEN;
+}
+
+/* Counts the answer's number and the stop; and with exact rooms, the page's mark and letters. */
 static void count(const struct asked *a, const char *text)
 {
     unsigned long number = strtoul(text, NULL, 10);
 
     run.met[0][number]++;
+    if (number == 0 || number == 21)
+        run.stops[kind_of(a)]++;
     if (number != 0 || a != &drawn.asked[0])
         return;
     run.mark[drawn.paged.planned.mark]++;
@@ -342,13 +363,13 @@ static void try_cases(void)
 
 /* ---- The program `page` ---- */
 
-/* What it should print: the page, or the number of the refusal. Gives the length. */
+/* What it should print: the page up to N, or the number of the refusal. Gives the length. */
 static size_t want_text(struct bytes ticket, uint8_t *text)
 {
     static uint8_t sheet[2][REF_SHEET];
     struct ref_paged paged;
-    unsigned number = ref_page(ticket.at, ticket.len, sheet[0], REF_SHEET, sheet[1], REF_SHEET,
-                               text, REF_PAGE, &paged);
+    unsigned number = ref_page(ticket.at, ticket.len, ref_references(ticket.at, ticket.len),
+                               sheet[0], REF_SHEET, sheet[1], REF_SHEET, text, REF_PAGE, &paged);
 
     run.met[1][number]++;
     return number == 0 ? paged.length : (size_t)sprintf((char *)text, "refused %u\n", number);
@@ -414,7 +435,7 @@ static void try_program(void)
         run.job = (int64_t)(run.first + k);
         draw_lines(run.first + k);
         try_page(drawn.asked[0].ticket);
-        try_page(drawn.asked[2].ticket);
+        try_page(drawn.asked[3].ticket);
     }
     run.job = NO_JOB;
     if (run.first != 0)
@@ -440,13 +461,18 @@ static bool all_met(void)
     for (unsigned by = 0; by < 2; by++) {
         printf("  %s:", by == 0 ? "cases" : "page");
         for (unsigned k = 0; k < NUMBERS; k++)
-            if (k <= 8 || (by == 0 && k >= 17)) {
+            if (k <= 8 || (by == 0 && k >= 17 && k != 20)) {
                 printf(" %u:%lu", k, run.met[by][k]);
                 all = all && run.met[by][k] > 0;
             }
         printf("\n");
     }
-    printf("  letters:");
+    printf("  stops:");
+    for (unsigned k = 0; k < KINDS; k++) {
+        printf("%s %s %lu", k == 0 ? "" : ",", kind_name[k], run.stops[k]);
+        all = all && run.stops[k] > 0;
+    }
+    printf("\n  letters:");
     for (unsigned k = 0; k < LETTERS; k++) {
         printf(" %c:%lu", letters[k], run.letter[k]);
         all = all && run.letter[k] > 0;
@@ -475,6 +501,6 @@ int main(int argc, char **argv)
     printf("%" PRIu64 " jobs agree (seed %" PRIu64 "); numbers met:\n", run.count, run.seed);
     all = all_met();
     if (!all && run.first == 0 && run.count > 0)
-        printf("FAIL: a number, a letter or a mark was never met\n");
+        printf("FAIL: a number, a kind of stop, a letter or a mark was never met\n");
     return all || run.first != 0 || run.count == 0 ? 0 : 1;
 }

@@ -22,14 +22,14 @@ static void cases(void)
     }
 }
 
-/* A longer input is cut to one byte more than the longest ticket. */
+/* The stop is N. A longer input is cut to one byte more than the longest ticket. */
 static void page(void)
 {
     static uint8_t ticket[REF_TICKET + 1], sheet[2][REF_SHEET], text[REF_PAGE];
     size_t n = fread(ticket, 1, sizeof ticket, stdin);
     struct ref_paged paged;
-    unsigned number = ref_page(ticket, n, sheet[0], REF_SHEET, sheet[1], REF_SHEET, text, REF_PAGE,
-                               &paged);
+    unsigned number = ref_page(ticket, n, ref_references(ticket, n), sheet[0], REF_SHEET, sheet[1],
+                               REF_SHEET, text, REF_PAGE, &paged);
 
     if (number == 0)
         fwrite(text, 1, paged.length, stdout);

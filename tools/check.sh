@@ -188,17 +188,42 @@ sheets()
     show 'names for other blocks' "$A" 001800 -n cases/G.names
 }
 
+# Stops: sheets up to them, the numbers that come with them, and the order of 8, 21 and 9.
+stops()
+{
+    show 'G up to 13, where P-CON takes as few rounds' "$G" "$G_TO_13" -s 13
+    show 'the same with names' "$G" "$G_TO_13" -s 13 -n cases/G.names
+    show 'the same, names first' "$G" "$G_TO_13" -n cases/G.names -s 13
+    show 'the sheet of all of G, up to 13' "$G" "$G_P_MIN" -s 13
+    show 'a stop at the end' "$G" "$G_P_MIN" -s 21
+    show 'a stop at the start' "$G" 0000 -s 0
+    show 'a stop in a job without references' "$B" 0000 -s 00
+    show '15: the sheet up to 13 for all of G' "$G" "$G_TO_13"
+    show '15: the sheet up to 13 for one more' "$G" "$G_TO_13" -s 14
+    show '16: the sheet up to 13 and a byte more' "$G" "${G_TO_13}00" -s 13
+    show '21: one more than the references' "$G" "$G_P_MIN" -s 22
+    show '21: in a job without references' "$B" 0000 -s 1
+    show '21: 1, if 32 bits were kept' "$A" 001800 -s 4294967297
+    show '21: 1, if 64 bits were kept' "$A" 001800 -s 18446744073709551617
+    show '21: before 9' "$G" '' -s 22
+    show '21: before names for other blocks' "$A" 001800 -n cases/G.names -s 2
+    show '8: before 21' 102008001001 001800 -s 2
+}
+
 # Bad usage.
 usage()
 {
     for call in 'ticket -x' 'ticket a b c' 'ticket none' 'ticket -d none' \
         'ticket cases/A.txt none/none' 'sheet' 'sheet a' 'sheet a b c' 'sheet -n a' \
-        'sheet -x a' 'sheet - -' 'sheet none cases/A.txt' 'sheet cases/A.txt none'; do
+        'sheet -x a' 'sheet - -' 'sheet none cases/A.txt' 'sheet cases/A.txt none' \
+        'sheet -s' 'sheet -s 1' 'sheet -s 1 a' 'sheet -s one a b' 'sheet -s -1 a b' 'sheet -s 1x a b'; do
         echo "== $call"
         # The words of the call are its arguments.
         # shellcheck disable=SC2086
         run $call
     done
+    echo "== sheet -s '' a b"
+    run sheet -s '' a b
 }
 
 vector()
@@ -206,13 +231,14 @@ vector()
     sed -n "s/^$1 //p" cases/vectors.txt | cut -d ' ' -f "$2"
 }
 
-A=$(vector A 1) F=$(vector F 1) G=$(vector G 1) G_P_MIN=$(vector G 2) G_P_CON=$(vector G 3)
+A=$(vector A 1) B=$(vector B 1) F=$(vector F 1) G=$(vector G 1) G_P_MIN=$(vector G 2) G_P_CON=$(vector G 3)
+G_TO_13=0058010220140a809032038090140703c0c0
 bad=0
-for group in cases good texts tickets sheets usage; do
+for group in cases good texts tickets sheets stops usage; do
     $group >"$out/$group.out"
     diff -u "expected/$group.out" "$out/$group.out" || bad=1
 done
-for number in $(seq 1 16) 20; do
+for number in $(seq 1 16) 20 21; do
     grep -q "^refused $number: " "$out"/*.out || { echo "number $number is not met"; bad=1; }
 done
 [ $bad -eq 0 ] && echo 'check: all as expected'

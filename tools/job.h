@@ -1,6 +1,6 @@
 /* job.h - a job, its ticket and the reading of fields, for both tools.
  *
- * The numbers of refusals are those of document 01. */
+ * The numbers of refusals are those of documents 01 and 02. */
 #ifndef JOB_H
 #define JOB_H
 

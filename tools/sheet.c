@@ -1,4 +1,5 @@
-/* sheet.c - a sheet shown as a table of rounds, in the manner of Figure 1 of document 000. */
+/* sheet.c - a sheet shown as a table of rounds, in the manner of Figure 1 of document 000, for a
+ * whole job or up to a stop. */
 #include "job.h"
 
 #include <stdio.h>
@@ -21,6 +22,7 @@ struct play {
     bool resident[MAX_BLOCKS];
     unsigned held[MAX_DISKS];
     unsigned fetches[MAX_DISKS];
+    unsigned stop;             /* how many references count */
     unsigned next_read;
     int width;                 /* of a disk's column */
 };
@@ -114,15 +116,14 @@ static void act(struct play *play, unsigned d, struct action action)
     printf("  %-*s", play->width, cell);
 }
 
-/* References are consumed up to the first block that is not resident, or to the end. */
+/* References are consumed up to the first block that is not resident, or to the stop. */
 static void consume(struct play *play)
 {
     const struct job *job = play->job;
     const char *before = "  ";
     unsigned first = play->next_read;
 
-    while (play->next_read < job->references
-           && play->resident[job->reference[play->next_read]]) {
+    while (play->next_read < play->stop && play->resident[job->reference[play->next_read]]) {
         printf("%s%s", before, name[job->reference[play->next_read++]]);
         before = ", ";
     }
@@ -165,12 +166,26 @@ static void print_totals(const struct play *play, unsigned rounds)
     printf("\nrounds %u\n", rounds);
     for (unsigned d = 0; d < play->job->disks; d++)
         printf("disk %u fetches %u\n", d, play->fetches[d]);
+    if (play->stop < play->job->references)
+        printf("stop %u of %u references\n", play->stop, play->job->references);
+}
+
+/* Number 15, if a reference that counts is left. */
+static bool all_consumed(const struct play *play, struct refusal *refusal)
+{
+    const struct job *job = play->job;
+
+    if (play->next_read == play->stop)
+        return true;
+    return refuse(refusal, 15, "%u of %u references%s are left after the last round, "
+                  "block %s is next", play->stop - play->next_read, play->stop,
+                  play->stop < job->references ? " before the stop" : "",
+                  name[job->reference[play->next_read]]);
 }
 
 /* The whole sheet; false if it is refused. */
 static bool show(struct fields *f, struct play *play, struct refusal *refusal)
 {
-    const struct job *job = play->job;
     unsigned rounds;
 
     if (!take(f, 12, &rounds))
@@ -181,11 +196,7 @@ static bool show(struct fields *f, struct play *play, struct refusal *refusal)
     for (unsigned round = 1; round <= rounds; round++)
         if (!play_round(f, play, round, refusal))
             return false;
-    if (play->next_read < job->references)
-        return refuse(refusal, 15, "%u of %u references are left after the last round, "
-                      "block %s is next", job->references - play->next_read, job->references,
-                      name[job->reference[play->next_read]]);
-    if (!closes(f, 16, refusal))
+    if (!all_consumed(play, refusal) || !closes(f, 16, refusal))
         return false;
     print_totals(play, rounds);
     return true;
@@ -232,30 +243,67 @@ static int column_width(unsigned blocks)
     return longest < 3 ? 6 : (int)(2 * longest + 1);
 }
 
+/* ---- The stop ---- */
+
+static bool is_number(const char *word)
+{
+    return word[0] != '\0' && word[strspn(word, "0123456789")] == '\0';
+}
+
+/* The value of digits, cut off where it is above the references of any job. */
+static unsigned value_of(const char *digits)
+{
+    unsigned value = 0;
+
+    for (; *digits != '\0'; digits++)
+        if (value <= MAX_REFERENCES)
+            value = 10 * value + (unsigned)(*digits - '0');
+    return value;
+}
+
+/* The stop that was given in digits, or else the whole job's; false if it is refused. */
+static bool set_stop(struct play *play, const char *digits, struct refusal *refusal)
+{
+    unsigned references = play->job->references;
+
+    play->stop = digits == NULL ? references : value_of(digits);
+    if (play->stop > references)
+        return refuse(refusal, 21, "the number of references is %u, and the stop is %s",
+                      references, digits);
+    return true;
+}
+
 /* ---- The program ---- */
+
+/* What the program is called with; names and stop are NULL if they are left out. */
+struct arguments {
+    const char *names, *stop, *ticket, *sheet;
+};
 
 static _Noreturn void usage(void)
 {
-    fputs("usage: sheet [-n names] ticket sheet\n"
-          "  shows a sheet for a ticket as a table of rounds; names has one for each block\n",
+    fputs("usage: sheet [-n names] [-s stop] ticket sheet\n"
+          "  shows a sheet for a ticket as a table of rounds; names has one for each block;\n"
+          "  stop is how many references count, from the first on; without it all do\n",
           stderr);
     exit(BAD_USAGE);
 }
 
-/* Shows the sheet, or says why it or its ticket is refused. */
-static int show_files(const char *ticket, const char *sheet, const char *names)
+/* Shows the sheet, or says why it, its ticket or the stop is refused. */
+static int show_files(const struct arguments *given)
 {
     static uint8_t ticket_bytes[LONGEST_TICKET + 1], sheet_bytes[LONGEST_SHEET + 1];
     static struct job job;
-    size_t length = read_bytes(ticket, ticket_bytes, sizeof ticket_bytes);
-    struct fields f = {sheet_bytes, read_bytes(sheet, sheet_bytes, sizeof sheet_bytes), 0};
+    size_t length = read_bytes(given->ticket, ticket_bytes, sizeof ticket_bytes);
+    struct fields f = {sheet_bytes, read_bytes(given->sheet, sheet_bytes, sizeof sheet_bytes), 0};
     struct play play = {.job = &job};
     struct refusal refusal;
-    bool good = read_ticket(ticket_bytes, length, &job, &refusal);
+    bool good = read_ticket(ticket_bytes, length, &job, &refusal)
+        && set_stop(&play, given->stop, &refusal);
 
     number_blocks();
-    if (good && names != NULL)
-        read_names(names, job.blocks);
+    if (good && given->names != NULL)
+        read_names(given->names, job.blocks);
     if (good) {
         play.width = column_width(job.blocks);
         good = show(&f, &play, &refusal);
@@ -266,16 +314,31 @@ static int show_files(const char *ticket, const char *sheet, const char *names)
     return good ? GOOD : BAD_INPUT;
 }
 
+/* Where the value of an option goes; NULL if the word is none. */
+static const char **value_place(struct arguments *given, const char *word)
+{
+    if (strcmp(word, "-n") == 0)
+        return &given->names;
+    return strcmp(word, "-s") == 0 ? &given->stop : NULL;
+}
+
 int main(int argc, char **argv)
 {
-    const char *names = NULL;
+    struct arguments given = {NULL, NULL, NULL, NULL};
+    const char **value;
 
-    if (argc > 2 && strcmp(argv[1], "-n") == 0) {
-        names = argv[2];
+    while (argc > 2 && (value = value_place(&given, argv[1])) != NULL) {
+        *value = argv[2];
         argc -= 2;
         argv += 2;
     }
     if (argc != 3 || (argv[1][0] == '-' && (argv[1][1] != '\0' || strcmp(argv[2], "-") == 0)))
         usage();
-    return show_files(argv[1], argv[2], names);
+    if (given.stop != NULL && !is_number(given.stop)) {
+        fprintf(stderr, "the stop is a number, not '%s'\n", given.stop);
+        usage();
+    }
+    given.ticket = argv[1];
+    given.sheet = argv[2];
+    return show_files(&given);
 }

@@ -115,11 +115,18 @@ static char *put_planned(char *to, const struct ref_planned *p, const uint8_t *p
     return put_hex(to + sprintf(to, " | "), p_con, p->sheet_length[REF_P_CON]);
 }
 
-static void answer_plan(struct bytes ticket, size_t ns, size_t np, char *to)
+/* A ticket and a stop. */
+struct part {
+    struct bytes ticket;
+    size_t stop;
+};
+
+static void answer_plan(struct part part, size_t ns, size_t np, char *to)
 {
     struct lent p_min = lend(ns), p_con = lend(np);
     struct ref_planned p;
-    unsigned number = ref_plan(ticket.at, ticket.len, p_min.at, ns, p_con.at, np, &p);
+    unsigned number = ref_plan(part.ticket.at, part.ticket.len, part.stop, p_min.at, ns, p_con.at,
+                               np, &p);
 
     to += sprintf(to, "%u", number);
     if (number == 0)
@@ -128,11 +135,12 @@ static void answer_plan(struct bytes ticket, size_t ns, size_t np, char *to)
     take_back(to, p_con, p.sheet_length[REF_P_CON]);
 }
 
-static void answer_page(struct bytes ticket, size_t ns, size_t np, size_t ng, char *to)
+static void answer_page(struct part part, size_t ns, size_t np, size_t ng, char *to)
 {
     struct lent p_min = lend(ns), p_con = lend(np), page = lend(ng);
     struct ref_paged p;
-    unsigned number = ref_page(ticket.at, ticket.len, p_min.at, ns, p_con.at, np, page.at, ng, &p);
+    unsigned number = ref_page(part.ticket.at, part.ticket.len, part.stop, p_min.at, ns, p_con.at,
+                               np, page.at, ng, &p);
 
     to += sprintf(to, "%u", number);
     if (number == 0) {
@@ -144,11 +152,12 @@ static void answer_page(struct bytes ticket, size_t ns, size_t np, size_t ng, ch
     take_back(to, page, p.length);
 }
 
-static void answer_check(struct bytes ticket, struct bytes sheet, char *to)
+static void answer_check(struct part part, struct bytes sheet, char *to)
 {
     uint16_t numbers[REF_CHECKED_NUMBERS];
     struct ref_counts counts;
-    unsigned number = ref_check(ticket.at, ticket.len, sheet.at, sheet.len, &counts);
+    unsigned number = ref_check(part.ticket.at, part.ticket.len, part.stop, sheet.at, sheet.len,
+                                &counts);
 
     to += sprintf(to, "%u", number);
     if (number == 0) {
@@ -157,12 +166,12 @@ static void answer_check(struct bytes ticket, struct bytes sheet, char *to)
     }
 }
 
-static void answer_choose(struct bytes ticket, struct bytes first, struct bytes second, char *to)
+static void answer_choose(struct part part, struct bytes first, struct bytes second, char *to)
 {
     uint16_t numbers[REF_CHOSEN_NUMBERS];
     struct ref_chosen chosen;
-    unsigned number = ref_choose(ticket.at, ticket.len, first.at, first.len, second.at, second.len,
-                                 &chosen);
+    unsigned number = ref_choose(part.ticket.at, part.ticket.len, part.stop, first.at, first.len,
+                                 second.at, second.len, &chosen);
 
     to += sprintf(to, "%u", number);
     if (number == 0) {
@@ -171,41 +180,52 @@ static void answer_choose(struct bytes ticket, struct bytes first, struct bytes 
     }
 }
 
-static size_t room_of(const char *word)
+/* A stop or a room: a decimal number of at most 64 bits. */
+static size_t number_of(const char *word)
 {
-    return strtoul(word, NULL, 10);
+    char *end;
+    unsigned long long number = strtoull(word, &end, 10);
+
+    if (*end != '\0' || number > SIZE_MAX)
+        exit(2);
+    return (size_t)number;
 }
 
-bool answer(char *call, char *to)
+/* Answers a call by its words, the first of which is its name. */
+static bool answer_words(char **word, unsigned words, char *to)
 {
-    enum { MOST = 6 };         /* one more than any call has */
-    struct bytes ticket, sheet, other;
-    const char *word[MOST];
-    unsigned words = 0;
+    struct part part = {from_hex(word[1]), number_of(word[2])};
+    struct bytes sheet, other;
     bool known = true;
 
-    for (char *w = strtok(call, " "); w != NULL && words < MOST; w = strtok(NULL, " "))
-        word[words++] = w;
-    if (words < 3)
-        return false;
-    ticket = from_hex(word[1]);
-    if (strcmp(word[0], "plan") == 0 && words == 4) {
-        answer_plan(ticket, room_of(word[2]), room_of(word[3]), to);
-    } else if (strcmp(word[0], "page") == 0 && words == 5) {
-        answer_page(ticket, room_of(word[2]), room_of(word[3]), room_of(word[4]), to);
-    } else if (strcmp(word[0], "check") == 0 && words == 3) {
-        sheet = from_hex(word[2]);
-        answer_check(ticket, sheet, to);
+    if (strcmp(word[0], "plan") == 0 && words == 5) {
+        answer_plan(part, number_of(word[3]), number_of(word[4]), to);
+    } else if (strcmp(word[0], "page") == 0 && words == 6) {
+        answer_page(part, number_of(word[3]), number_of(word[4]), number_of(word[5]), to);
+    } else if (strcmp(word[0], "check") == 0 && words == 4) {
+        sheet = from_hex(word[3]);
+        answer_check(part, sheet, to);
         free(sheet.at);
-    } else if (strcmp(word[0], "choose") == 0 && words == 4) {
-        sheet = from_hex(word[2]);
-        other = from_hex(word[3]);
-        answer_choose(ticket, sheet, other, to);
+    } else if (strcmp(word[0], "choose") == 0 && words == 5) {
+        sheet = from_hex(word[3]);
+        other = from_hex(word[4]);
+        answer_choose(part, sheet, other, to);
         free(sheet.at);
         free(other.at);
     } else {
         known = false;
     }
-    free(ticket.at);
+    free(part.ticket.at);
     return known;
+}
+
+bool answer(char *call, char *to)
+{
+    enum { MOST = 7 };         /* one more than any call has */
+    unsigned words = 0;
+    char *word[MOST];
+
+    for (char *w = strtok(call, " "); w != NULL && words < MOST; w = strtok(NULL, " "))
+        word[words++] = w;
+    return words >= 4 && answer_words(word, words, to);
 }

@@ -1,4 +1,4 @@
-/* exhaustive.c - every schedule of small jobs, against the two plans.
+/* exhaustive.c - every schedule of small jobs up to a stop, against the two plans.
  *
  * usage: exhaustive [SEED [COUNT]]
  * A state is the next read and the set of resident blocks. All states that allowed actions can
@@ -7,7 +7,9 @@
  * does not. Exit 0 only if these are the fetches of P-CON and the rounds of P-MIN in both searches,
  * though the second reaches some states in fewer rounds, or alone; the sheets of both plans pass the
  * check with the plans' counts, the choice between them follows the rounds, and each line of the
- * page says what the sheet handed back does, with the letter of the papers. */
+ * page says what the sheet handed back does, with the letter of the papers; all that planning gives
+ * is the same for the job that ends at the stop, and with other references from there on; and stops
+ * of 0, of N and in between were met. */
 #include "chance.h"
 #include "reference.h"
 
@@ -16,7 +18,9 @@
 #include <stdlib.h>
 #include <string.h>
 
-enum { MOST_DISKS = 3, MOST_BLOCKS = 6, MOST_REFERENCES = 20, SETS = 1 << MOST_BLOCKS };
+/* MOST_REFERENCES is before the stop, MOST_PAST from there on. */
+enum { MOST_DISKS = 3, MOST_BLOCKS = 6, MOST_REFERENCES = 20, MOST_PAST = 6 };
+enum { SETS = 1 << MOST_BLOCKS };
 enum { ROUNDS = MOST_DISKS, UNREACHED = 1000000 };
 
 struct search {
@@ -36,7 +40,7 @@ static unsigned size(unsigned set)
 /* The end of a round: reading, then the state's cost if it is the least so far. */
 static void arrive(struct search *s, unsigned next_read, unsigned set, unsigned cost)
 {
-    while (next_read < s->job->references && set >> s->job->reference[next_read] & 1)
+    while (next_read < s->job->stop && set >> s->job->reference[next_read] & 1)
         next_read++;
     if (cost < s->cost[next_read][set]) {
         s->cost[next_read][set] = cost;
@@ -68,31 +72,33 @@ static void each_action(struct search *s, unsigned d, unsigned next_read, unsign
     }
 }
 
-/* The least rounds, or fetches on a disk, of all schedules that consume every reference. */
+/* The least rounds, or fetches on a disk, of all schedules that consume every reference before the
+ * stop. */
 static unsigned least(struct search *s, unsigned measure)
 {
     unsigned best = UNREACHED;
 
     s->measure = measure;
-    for (unsigned p = 0; p <= s->job->references; p++)
+    for (unsigned p = 0; p <= s->job->stop; p++)
         for (unsigned set = 0; set < SETS; set++)
             s->cost[p][set] = UNREACHED;
     s->cost[0][0] = 0;
     do {
         s->changed = false;
-        for (unsigned p = 0; p < s->job->references; p++)
+        for (unsigned p = 0; p < s->job->stop; p++)
             for (unsigned set = 0; set < 1u << s->job->blocks; set++)
                 if (s->cost[p][set] != UNREACHED)
                     each_action(s, 0, p, set, s->cost[p][set]);
     } while (s->changed);
     for (unsigned set = 0; set < SETS; set++)
-        if (s->cost[s->job->references][set] < best)
-            best = s->cost[s->job->references][set];
+        if (s->cost[s->job->stop][set] < best)
+            best = s->cost[s->job->stop][set];
     return best;
 }
 
-/* Two jobs in three are of any kind, with at most 8 references. The third has two disks with one
- * and two slots, is longer and reads in stretches of one disk: there the two plans often part. */
+/* Two jobs in three are of any kind, with at most 8 references before the stop. The third has two
+ * disks with one and two slots, is longer and reads in stretches of one disk: there the two plans
+ * often part. In two jobs of three the stop may be before the end. */
 static void draw_small_job(struct chance *c, struct ref_job *job)
 {
     bool tight = one_in(c, 3);
@@ -100,7 +106,8 @@ static void draw_small_job(struct chance *c, struct ref_job *job)
 
     job->disks = tight ? 2 : between(c, 1, MOST_DISKS);
     job->blocks = tight ? MOST_BLOCKS : between(c, 1, MOST_BLOCKS);
-    job->references = tight ? between(c, 9, MOST_REFERENCES) : between(c, 0, 8);
+    job->stop = tight ? between(c, 9, MOST_REFERENCES) : between(c, 0, 8);
+    job->references = job->stop + (one_in(c, 3) ? 0 : below(c, MOST_PAST + 1));
     for (unsigned d = 0; d < job->disks; d++)
         job->slots[d] = tight ? d + 1 : between(c, 1, 3);
     for (unsigned b = 0; b < job->blocks; b++)
@@ -116,10 +123,10 @@ static void draw_small_job(struct chance *c, struct ref_job *job)
     }
 }
 
-/* A ticket, and both sheets by rule. */
+/* A ticket and a stop, and both sheets by rule. */
 struct written {
     uint8_t ticket[REF_TICKET], sheet[2][REF_SHEET];
-    size_t n;
+    size_t n, stop;
 };
 
 /* Both sheets pass, with the counts planning gave; 0 if not. */
@@ -128,11 +135,13 @@ static bool both_pass(const struct ref_job *job, struct written *w, struct ref_p
     struct ref_counts counts;
 
     w->n = ref_write_ticket(job, w->ticket, sizeof w->ticket);
-    if (ref_plan(w->ticket, w->n, w->sheet[0], REF_SHEET, w->sheet[1], REF_SHEET, planned) != 0)
+    w->stop = job->stop;
+    if (ref_plan(w->ticket, w->n, w->stop, w->sheet[0], REF_SHEET, w->sheet[1], REF_SHEET,
+                 planned) != 0)
         return false;
     for (int k = 0; k < 2; k++)
-        if (ref_check(w->ticket, w->n, w->sheet[k], planned->sheet_length[k], &counts) != 0 ||
-            memcmp(&counts, &planned->counts[k], sizeof counts) != 0)
+        if (ref_check(w->ticket, w->n, w->stop, w->sheet[k], planned->sheet_length[k],
+                      &counts) != 0 || memcmp(&counts, &planned->counts[k], sizeof counts) != 0)
             return false;
     return true;
 }
@@ -145,7 +154,7 @@ static bool chooses(const struct written *w, const struct ref_planned *planned, 
     enum ref_rule second = first == REF_P_MIN ? REF_P_CON : REF_P_MIN;
     struct ref_chosen chosen;
 
-    return ref_choose(w->ticket, w->n, w->sheet[first], planned->sheet_length[first],
+    return ref_choose(w->ticket, w->n, w->stop, w->sheet[first], planned->sheet_length[first],
                       w->sheet[second], planned->sheet_length[second], &chosen) == 0 &&
            chosen.which == (wanted == second) && chosen.length == planned->sheet_length[wanted];
 }
@@ -181,7 +190,7 @@ static unsigned later(const struct search *a, const struct search *b)
 {
     unsigned states = 0;
 
-    for (unsigned p = 0; p <= a->job->references; p++)
+    for (unsigned p = 0; p <= a->job->stop; p++)
         for (unsigned set = 0; set < SETS; set++)
             states += a->cost[p][set] > b->cost[p][set];
     return states;
@@ -216,10 +225,11 @@ static struct ref_action take_action(const uint8_t *sheet, size_t *at)
     return a;
 }
 
-/* The position of the first reference, at or after this one, to a block of the set; N if none. */
+/* The position of the first reference, at or after this one, to a block of the set; the stop if there
+ * is none before it. */
 static unsigned due(const struct ref_job *job, unsigned set, unsigned at)
 {
-    while (at < job->references && !(set >> job->reference[at] & 1))
+    while (at < job->stop && !(set >> job->reference[at] & 1))
         at++;
     return at;
 }
@@ -263,7 +273,7 @@ static char letter_of(const struct ref_job *job, const struct seen *s, enum ref_
     unsigned before = 0, u_due = due(job, s->outside, s->next_read);
     bool idle = a.fetch == REF_NONE;
 
-    if (u_due == job->references)
+    if (u_due == job->stop)
         return idle ? 'N' : 0;
     if (!idle && a.fetch != job->reference[u_due])
         return 0;
@@ -326,29 +336,126 @@ static bool page_agrees(const struct ref_job *job, enum ref_rule rule, const uin
             if (a.fetch != REF_NONE)
                 set |= 1u << a.fetch;
         }
-        while (next_read < job->references && set >> job->reference[next_read] & 1)
+        while (next_read < job->stop && set >> job->reference[next_read] & 1)
             next_read++;
     }
     return memcmp(page, legend, strlen(legend)) == 0;
+}
+
+/* All that the page call gives. */
+struct paged {
+    uint8_t sheet[2][REF_SHEET], page[REF_PAGE];
+    struct ref_paged out;
+};
+
+static bool ask_page(const struct written *w, struct paged *p)
+{
+    return ref_page(w->ticket, w->n, w->stop, p->sheet[0], REF_SHEET, p->sheet[1], REF_SHEET,
+                    p->page, REF_PAGE, &p->out) == 0;
+}
+
+/* The page call gives what planning gave. */
+static bool same_plans(const struct paged *p, const struct written *w,
+                       const struct ref_planned *planned)
+{
+    if (p->out.planned.mark != planned->mark || p->out.planned.length != planned->length)
+        return false;
+    for (int k = 0; k < 2; k++)
+        if (memcmp(&p->out.planned.counts[k], &planned->counts[k], sizeof planned->counts[k]) != 0 ||
+            p->out.planned.sheet_length[k] != planned->sheet_length[k] ||
+            memcmp(p->sheet[k], w->sheet[k], planned->sheet_length[k]) != 0)
+            return false;
+    return true;
 }
 
 /* The page call gives what planning gives, and the page agrees with the sheet handed back. */
 static bool page_follows(const struct ref_job *job, const struct written *w,
                          const struct ref_planned *planned)
 {
-    static uint8_t sheet[2][REF_SHEET], page[REF_PAGE];
-    struct ref_paged paged;
+    static struct paged p;
 
-    if (ref_page(w->ticket, w->n, sheet[0], REF_SHEET, sheet[1], REF_SHEET, page, REF_PAGE,
-                 &paged) != 0 || paged.planned.mark != planned->mark ||
-        paged.planned.length != planned->length)
-        return false;
-    for (int k = 0; k < 2; k++)
-        if (memcmp(&paged.planned.counts[k], &planned->counts[k], sizeof planned->counts[k]) != 0 ||
-            paged.planned.sheet_length[k] != planned->sheet_length[k] ||
-            memcmp(sheet[k], w->sheet[k], planned->sheet_length[k]) != 0)
-            return false;
-    return page_agrees(job, (enum ref_rule)planned->mark, sheet[planned->mark], page, paged.length);
+    return ask_page(w, &p) && same_plans(&p, w, planned) &&
+           page_agrees(job, (enum ref_rule)planned->mark, p.sheet[planned->mark], p.page,
+                       p.out.length);
+}
+
+/* ---- What is past the stop ---- */
+
+/* All that planning gives, the page too, is the same for this job, up to the same stop. */
+static bool same_for(const struct ref_job *other, const struct written *w,
+                     const struct ref_planned *planned)
+{
+    static struct paged want, have;
+    struct written o = {.stop = other->stop};
+
+    o.n = ref_write_ticket(other, o.ticket, sizeof o.ticket);
+    return ask_page(w, &want) && ask_page(&o, &have) && same_plans(&have, w, planned) &&
+           have.out.length == want.out.length &&
+           memcmp(have.page, want.page, want.out.length) == 0;
+}
+
+/* For the job that ends at the stop, where the stop is N. */
+static bool stop_is_end(const struct ref_job *job, const struct written *w,
+                        const struct ref_planned *planned)
+{
+    struct ref_job other = *job;
+
+    other.references = job->stop;
+    return same_for(&other, w, planned);
+}
+
+/* For a job that goes on from the stop, for as long as may be, with other references. */
+static bool past_is_ignored(struct chance *c, const struct ref_job *job, const struct written *w,
+                            const struct ref_planned *planned)
+{
+    struct ref_job other = *job;
+
+    other.references = job->stop + below(c, MOST_PAST + 1);
+    for (unsigned i = job->stop; i < other.references; i++)
+        other.reference[i] = (uint16_t)below(c, job->blocks);
+    return same_for(&other, w, planned);
+}
+
+/* ---- All of it ---- */
+
+static struct {
+    unsigned long none, whole, between;   /* stops: 0, N, and others */
+    unsigned long sooner;      /* states that discards beside an empty slot reach sooner, or alone */
+    unsigned long slower, spares;
+} met;
+
+static void count_met(const struct ref_job *job, const struct ref_planned *planned)
+{
+    met.none += job->stop == 0;
+    met.whole += job->stop == job->references;
+    met.between += job->stop > 0 && job->stop < job->references;
+    met.slower += planned->counts[REF_P_CON].rounds > planned->counts[REF_P_MIN].rounds;
+    met.spares += memcmp(planned->counts[0].fetches, planned->counts[1].fetches,
+                         sizeof planned->counts[0].fetches) != 0;
+}
+
+/* What does not hold of a job, or NULL. */
+static const char *search_job(struct chance *c, const struct ref_job *job)
+{
+    static struct search now = {.beside_empty = false}, before = {.beside_empty = true};
+    static struct written written;
+    struct ref_planned planned;
+
+    if (!both_pass(job, &written, &planned) || !plans_are_least(&now, job, &planned))
+        return "NOT THE LEAST";
+    if (!plans_are_least(&before, job, &planned))
+        return "LONGER THAN BEFORE L3";
+    met.sooner += later(&now, &before);
+    if (!stop_is_end(job, &written, &planned))
+        return "THE STOP IS NOT AS THE END";
+    if (!past_is_ignored(c, job, &written, &planned))
+        return "WHAT IS PAST THE STOP COUNTS";
+    if (!choices_follow_rounds(&written, &planned))
+        return "ANOTHER CHOICE";
+    if (!page_follows(job, &written, &planned))
+        return "ANOTHER PAGE";
+    count_met(job, &planned);
+    return NULL;
 }
 
 /* Says what does not hold of a job, and gives the exit status. */
@@ -364,47 +471,46 @@ static int report(const char *what, uint64_t seed, uint64_t k, const struct ref_
     printf("; references");
     for (unsigned i = 0; i < job->references; i++)
         printf(" %u", job->reference[i]);
-    printf("\n");
+    printf("; stop %u\n", job->stop);
     return 1;
+}
+
+/* Prints what was met; false if something was not. */
+static bool all_met(void)
+{
+    printf("  stops of 0: %lu, of N: %lu, in between: %lu\n", met.none, met.whole, met.between);
+    printf("  discards beside an empty slot reach %lu states sooner, or alone\n", met.sooner);
+    printf("  P-CON took more rounds than P-MIN in %lu, and other fetches in %lu\n", met.slower,
+           met.spares);
+    printf("  letters met:");
+    for (unsigned k = 0; k < LETTERS; k++)
+        printf(" %c:%lu", letters[k], letters_met[k]);
+    printf("\n");
+    return met.none > 0 && met.whole > 0 && met.between > 0 && met.sooner > 0;
 }
 
 int main(int argc, char **argv)
 {
     uint64_t seed = argc > 1 ? strtoull(argv[1], NULL, 10) : 1;
     uint64_t count = argc > 2 ? strtoull(argv[2], NULL, 10) : 10000;
-    static struct search now = {.beside_empty = false}, before = {.beside_empty = true};
-    static struct written written;
-    unsigned slower = 0, spares = 0;
-    unsigned long gained = 0;
+    bool all;
 
     for (uint64_t k = 0; k < count; k++) {
         struct chance c = chance_for(seed, k);
-        struct ref_planned planned;
         struct ref_job job;
+        const char *wrong;
 
         draw_small_job(&c, &job);
-        if (!both_pass(&job, &written, &planned) || !plans_are_least(&now, &job, &planned))
-            return report("NOT THE LEAST", seed, k, &job);
-        if (!plans_are_least(&before, &job, &planned))
-            return report("LONGER THAN BEFORE L3", seed, k, &job);
-        gained += later(&now, &before);
-        if (!choices_follow_rounds(&written, &planned))
-            return report("ANOTHER CHOICE", seed, k, &job);
-        if (!page_follows(&job, &written, &planned))
-            return report("ANOTHER PAGE", seed, k, &job);
-        slower += planned.counts[REF_P_CON].rounds > planned.counts[REF_P_MIN].rounds;
-        spares += memcmp(planned.counts[0].fetches, planned.counts[1].fetches,
-                         sizeof planned.counts[0].fetches) != 0;
+        wrong = search_job(&c, &job);
+        if (wrong != NULL)
+            return report(wrong, seed, k, &job);
     }
-    printf("%" PRIu64 " jobs searched (seed %" PRIu64 "): the plans are the least in all, with "
-           "and without L3, the choices follow the rounds, and the pages the sheets\n", count, seed);
-    printf("  discards beside an empty slot reach %lu states sooner, or alone\n", gained);
-    printf("  P-CON took more rounds than P-MIN in %u, and other fetches in %u\n", slower, spares);
-    printf("  letters met:");
-    for (unsigned k = 0; k < LETTERS; k++)
-        printf(" %c:%lu", letters[k], letters_met[k]);
-    printf("\n");
-    if (gained == 0)
-        printf("FAIL: no state is reached sooner, or only, with discards beside an empty slot\n");
-    return gained == 0;
+    printf("%" PRIu64 " jobs searched (seed %" PRIu64 "): the plans are the least in all, with and "
+           "without L3, and the same whatever is past the stop;\n  the choices follow the rounds, "
+           "and the pages the sheets\n", count, seed);
+    all = all_met();
+    if (!all)
+        printf("FAIL: a kind of stop, or a state that is reached sooner, or only, with discards "
+               "beside an empty slot, was never met\n");
+    return !all;
 }

@@ -8,7 +8,7 @@ build=$1
 dir=$build/mutant
 missed=0
 tried=0
-cat ../vectors/L3.txt ../vectors/edges.txt ../vectors/longest.txt >"$build/all.txt" || exit 2
+cat ../vectors/L5.txt ../vectors/edges.txt ../vectors/longest.txt >"$build/all.txt" || exit 2
 
 # trial NAME SCRIPT TEST WORDS ARGUMENT... - the changed copy must differ and compile, and the test
 # must say what is wrong with it: a crash would not do.
@@ -52,17 +52,17 @@ demand="s/^    survey\\(.*/&\\n$each_disk $on_demand/"
 early='s/^    if \(l->distance\[v.min_block\] < /    if (rule == REF_P_MIN \&\& l->distance[v.min_block] < /
     s/if \(from_u > l->distance\[v.min_block\]\)/unsigned m = l->distance[v.min_block]; while (m < l->distance[v.u]) m = l->next[m]; if (from_u > m)/'
 # a plan that does not end is cut, so that its answer differs
-at_most_n='s/(begin\(job, &r\); r.next_read < job->references)(; schedule)/\1 \&\& counts->rounds < job->references\2/
-    s/(begin\(job, &r\); r.next_read < job->references)(;\) \{)/\1 \&\& round < job->references\2/'
+at_most_n='s/(begin\(job, &r\); r.next_read < job->stop)(; schedule)/\1 \&\& counts->rounds < job->stop\2/
+    s/(begin\(job, &r\); r.next_read < job->stop)(;\) \{)/\1 \&\& round < job->stop\2/'
 written_first='s/^    if \(number != 0\)$/    if (number == 18) ref_write_sheet(drawn.schedule[0], drawn.planned.counts[0].rounds, drawn.job.disks, p_min, ns);\n&/'
 n_as_e="s/return 'N'/return s->held[d] < job->slots[d] ? 'E' : 'N'/"
-n_as_s="s/return 'N'/return s->held[d] == job->slots[d] \\&\\& l->distance[v.min_block] < job->references ? 'S' : 'N'/"
+n_as_s="s/return 'N'/return s->held[d] == job->slots[d] \\&\\& l->distance[v.min_block] < job->stop ? 'S' : 'N'/"
 s_as_w="s/return 'S'/return rule == REF_P_CON \\&\\& waits(job, s, l, d, v) ? 'W' : 'S'/
     s/if \(from_u > l->distance\[v.min_block\]\)/unsigned m = l->distance[v.min_block]; while (m < l->distance[v.u]) m = l->next[m]; if (from_u > m)/"
 next_disk='s/actions\[d\], letters/actions[(d + 1) % job->disks], letters/'
 next_letter='s/letters\[d\]\);/letters[(d + 1) % job->disks]);/'
-each_round='for \(begin\(job, &r\); r.next_read < job->references;\) \{'
-by_disk="s/^    $each_round/    for (unsigned only = 0; only < job->disks; only++)\\n    for (begin(job, \\&r), round = 0; r.next_read < job->references;) {/
+each_round='for \(begin\(job, &r\); r.next_read < job->stop;\) \{'
+by_disk="s/^    $each_round/    for (unsigned only = 0; only < job->disks; only++)\\n    for (begin(job, \\&r), round = 0; r.next_read < job->stop;) {/
     s/^        for \\(unsigned d = 0; (.* page \\+= REF_LINE)/        for (unsigned d = only; d == only \\&\\& \\1/"
 exchanged='/^static void put_line/,/^}/{s/a\.fetch/a.left/;s/a\.discard/a.fetch/;s/a\.left/a.discard/}'
 of_p_con='s/rule = \(enum ref_rule\)drawn.planned.mark/rule = REF_P_CON/'
@@ -111,6 +111,58 @@ tie_first=$(chosen "$second.rounds < $first.rounds")
 by_fetches="s/^    out->which = /    unsigned sum[2] = {0, 0};\\n    for (unsigned k = 0; k < 16; k++) sum[k \\/ 8] += counts[k \\/ 8].fetches[k % 8];\\n&/
     $(chosen 'sum[1] <= sum[0]')"
 
+# Scripts about the stop
+in_reading='/^unsigned ref_read_ticket/,/^}/'
+in_lookup='/^static void build_lookup/,/^}/'
+in_survey='/^static void survey/,/^}/'
+in_check='/^unsigned ref_check/,/^}/'
+in_choice='/^unsigned ref_choose/,/^}/'
+in_planning='/^static unsigned draw_up/,/^}/'
+at_stop='(job->stop + (job->stop < job->references))'
+no_never="${in_lookup}s/job->stop/job->references/;${in_survey}s/job->stop/job->references/"
+no_never_at="${in_lookup}s/job->stop/$at_stop/;${in_survey}s/job->stop/$at_stop/"
+min_past="${in_lookup}s/job->stop/job->references/"
+wait_past='s/^        while \(from_u < l->distance\[v.u\]\)/        for (from_u = l->distance[v.u]; from_u < job->references \&\& job->reference[from_u] != b;)/
+    s/^            from_u = l->next\[from_u\];/            from_u++;/
+    s/if \(from_u > l->distance\[v.min_block\]\)/unsigned m = l->distance[v.u]; while (m < job->references \&\& job->reference[m] != v.min_block) m++; if (l->distance[b] < l->distance[v.u] \&\& from_u > m)/'
+page_past='s/^    write_page\(/    if (ng >= REF_PAGE) drawn.job.stop = drawn.job.references;\n&/'
+
+# counted EXPRESSION - the script that has so many references count.
+counted() {
+    printf '%ss/^    job->stop = .*/    job->stop = %s;/' "$in_reading" "$1"
+}
+one_more=$(counted '(unsigned)stop + (stop < job->references)')
+one_less=$(counted '(unsigned)stop - (stop > 0)')
+
+# refused EXPRESSION - the script that has 21 returned where this holds; else a stop above N is N.
+refused() {
+    printf '%s{s/^    if \\(stop > job->references\\)/    if (%s)/;s/= \\(unsigned\\)stop;/= stop < job->references ? (unsigned)stop : job->references;/}' \
+        "$in_reading" "$1"
+}
+
+# narrowed BITS - the script that has so many bits of the stop read.
+narrowed() {
+    printf '%ss/^    unsigned number = /    stop \\&= (1ull << %s) - 1;\\n&/' "$in_reading" "$1"
+}
+
+# first_of NUMBER - the script that has 21 tested before this number of the ticket.
+first_of() {
+    printf '%ss/^    if \\(number != 0\\)$/    if (number == %s \\&\\& stop > ref_references(ticket, n)) return 21;\\n&/' "$in_reading" "$1"
+}
+
+# sheet_first FUNCTION NUMBER CHECKS - the script that has this number come before 21 in the function, where the checks up to N give it.
+sheet_first() {
+    printf '/^unsigned %s/,/^}/s/^    memset\\(out, 0, .*/&\\n    if (number == 21 \\&\\& ref_read_ticket(ticket, n, ref_references(ticket, n), \\&job) == 0 \\&\\& %s == %s) return %s;/' \
+        "$1" "$3" "$2" "$2"
+}
+
+# of_whole THEN - the script that plans the whole job as well, in draw_up, its counts in c and its schedules in a, and then does this.
+of_whole() {
+    printf '%ss/^    for \\(unsigned k = 0; k < 2; k\\+\\+\\)$/    static struct ref_action a[2][REF_ROUNDS * REF_DISKS];\\n    struct ref_counts c[2];\\n'\
+'    struct ref_job w = drawn->job;\\n    w.stop = w.references;\\n'\
+'    for (int k = 0; k < 2; k++) ref_run(\\&w, (enum ref_rule)k, a[k], \\&c[k]);\\n    %s\\n&/' "$in_planning" "$1"
+}
+
 # The rules
 mutant 'lowest number among several nevers' \
     's/(distance\[b\] )>=( l->distance\[v->min_block)/\1>\2/'
@@ -132,7 +184,68 @@ mutant 'equal rounds give the sheet of P-MIN' 's/p->mark = choice\(p->counts\)/p
 
 # How positions are held
 mutant 'positions in eight bits' "/^static void build_lookup/,/^}/s/\\(uint16_t\\)/(uint8_t)/;$at_most_n"
-mutant 'the position 2048 held as 0' "s/\\(uint16_t\\)job->references/(uint16_t)(job->references % 2048)/;$at_most_n"
+mutant 'the position 2048 held as 0' "s/\\(uint16_t\\)job->stop/(uint16_t)(job->stop % 2048)/;$at_most_n"
+
+# How far a stop reaches
+mutant 'the stop not looked at' "$(counted 'job->references')"
+mutant 'the reference at the stop counts too' "$one_more"
+mutant 'the last reference before the stop does not count' "$one_less"
+mutant 'a stop of 0 is the whole job' "$(counted 'stop > 0 ? (unsigned)stop : job->references')"
+mutant 'a reference past the stop is no never' "$no_never"
+mutant 'the reference at the stop is no never' "$no_never_at"
+mutant 'the min-block by references past the stop' "$min_past"
+mutant 'P-CON waits by references past the stop' "$wait_past"
+mutant 'planning up to N' "${in_planning}s/^        ref_run\\(/        drawn->job.stop = drawn->job.references;\\n&/"
+mutant 'P-MIN up to N' "${in_planning}s/^        ref_run\\(/        drawn->job.stop = k == 0 ? drawn->job.references : (unsigned)stop;\\n&/"
+mutant 'P-CON up to N' "${in_planning}s/^        ref_run\\(/        drawn->job.stop = k == 1 ? drawn->job.references : (unsigned)stop;\\n&/"
+mutant 'the mark of the whole job' "$(of_whole '')
+    ${in_planning}s/choice\\(p->counts\\)/choice(c)/"
+mutant 'the counts of the whole job' "$(of_whole '')
+    ${in_planning}s/^    p->length = .*/&\\n    memcpy(p->counts, c, sizeof c);/"
+mutant 'rooms for the sheets of the whole job asked for' \
+    "$(of_whole 'for (unsigned k = 0; k < 2; k++) if (sheet_length(a[k], (size_t)c[k].rounds * w.disks) > room[k]) return 17 + k;')"
+mutant 'the check up to N' "${in_check}s/number = check_sheet/job.stop = job.references, &/"
+mutant 'the check asks that the reading end at the stop' \
+    '/^static unsigned consume/,/^}/s/job->stop/job->references/;/^static unsigned check_rounds/,/^}/s/next_read < job->stop/next_read != job->stop/'
+mutant 'actions after the stop is reached not tested' \
+    '/^static unsigned check_rounds/,/^}/s/^            if \(number != 0\)/            if (number > 9 \&\& next_read == job->stop \&\& next_read < job->references) number = 0, a = (struct ref_action){REF_NONE, REF_NONE};\n&/'
+mutant 'the first sheet of a choice up to N' "${in_choice}s/number = check_sheet/job.stop = k == 0 ? job.references : (unsigned)stop, &/"
+mutant 'the second sheet of a choice up to N' "${in_choice}s/number = check_sheet/job.stop = k == 1 ? job.references : (unsigned)stop, &/"
+mutant 'the page up to N' "$page_past"
+mutant 'room for the page of the whole job asked for' \
+    's/^    if \(length > ng\)/    static struct ref_action a[REF_ROUNDS * REF_DISKS];\n    struct ref_counts c;\n    struct ref_job w = drawn.job;\n'\
+'    w.stop = w.references;\n    ref_run(\&w, rule, a, \&c);\n    if ((c.rounds * w.disks + REF_LEGEND) * REF_LINE > ng) return 19;\n&/'
+
+# Which stops are refused
+mutant 'a stop of N refused' "$(refused 'stop >= job->references')"
+mutant 'a stop of N refused, but for no references' "$(refused 'stop >= job->references \&\& stop > 0')"
+mutant 'no stop refused' "$(refused false)"
+mutant 'a stop of N + 1 accepted' "$(refused 'stop > job->references + 1')"
+mutant 'a stop of N + 1 accepted where there are no references' "$(refused 'stop > job->references + (job->references == 0)')"
+mutant 'a stop above 2048 alone refused' "$(refused 'stop > REF_REFERENCES')"
+mutant 'the largest stop accepted' "$(refused 'stop > job->references \&\& stop != SIZE_MAX')"
+mutant 'the stop as a signed number' "$(refused '(long long)stop > (long long)job->references')"
+for bits in 8 12 16 32 63; do
+    mutant "the last $bits bits of the stop" "$(narrowed "$bits")"
+done
+
+# When 21 is tested
+for number in 1 2 3 4 5 6 7 8; do
+    mutant "21 tested before $number" "$(first_of "$number")"
+done
+for number in 9 10 11 12 13 14 15 16 20; do
+    mutant "21 tested after $number in the check" "$(sheet_first ref_check "$number" 'check_sheet(\&job, sheet, m, \&counts)')"
+    mutant "21 tested after $number of the first sheet" "$(sheet_first ref_choose "$number" 'check_sheet(\&job, first, m1, \&counts[0])')"
+    mutant "21 tested after $number of the second sheet" \
+        "$(sheet_first ref_choose "$number" 'check_sheet(\&job, first, m1, \&counts[0]) == 0 \&\& check_sheet(\&job, second, m2, \&counts[1])')"
+done
+mutant '21 tested after 17' '/^unsigned ref_plan/,/^}/s/^    if \(number != 0\)$/    if (number == 21 \&\& ns < 2) return 17;\n&/'
+mutant '21 tested after 18' '/^unsigned ref_plan/,/^}/s/^    if \(number != 0\)$/    if (number == 21 \&\& np < 2) return 18;\n&/'
+mutant '21 tested after 17 with a page' "$(before_number 'if (number == 21 \&\& ns < 2) return 17;')"
+mutant '21 tested after 18 with a page' "$(before_number 'if (number == 21 \&\& np < 2) return 18;')"
+mutant '21 tested after 19' "$(before_number 'if (number == 21 \&\& ng < REF_LEGEND * REF_LINE) return 19;')"
+mutant 'sheets written although 21' "$(refused false)
+    s/^    write_sheets\\(&drawn.*/&\\n    if (stop > drawn.job.references) return 21;/"
 
 # What planning hands back
 mutant 'part length always that of P-MIN' 's/(p->length = .*)\[p->mark\]/\1[REF_P_MIN]/'
@@ -167,11 +280,11 @@ mutant 'a disk of D accepted' 's/if \(v >= job->disks\)/if (v > job->disks)/;s/^
 mutant '2049 references accepted' 's/references > REF_REFERENCES/references > REF_REFERENCES + 1/;s/^    return closes\(&r\).*/    if (job->references > REF_REFERENCES) return 7;\n&/'
 mutant 'a reference of B accepted' 's/^        if \(v >= job->blocks\)/        if (v > job->blocks)/;s/^(        job->reference\[i\] = ).*/\1(uint16_t)(v % job->blocks);/'
 mutant '7 tested after all references are read' \
-    '/^unsigned ref_read_ticket/,/^}/{s/unsigned v;/unsigned v, late = 0;/;s/return 7;/late = 7;/;s/return closes/return late ? late : closes/}'
+    '/^static unsigned read_fields/,/^}/{s/unsigned v;/unsigned v, late = 0;/;s/return 7;/late = 7;/;s/return closes/return late ? late : closes/}'
 mutant '5 tested after all disks are read' \
-    '/^unsigned ref_read_ticket/,/^}/{s/unsigned v;/unsigned v, late = 0;/;s/return 5;/late = 5;/;s/^    if \(!field\(&r, 12/    if (late) return late;\n&/}'
+    '/^static unsigned read_fields/,/^}/{s/unsigned v;/unsigned v, late = 0;/;s/return 5;/late = 5;/;s/^    if \(!field\(&r, 12/    if (late) return late;\n&/}'
 mutant '3 tested after all slots are read' \
-    '/^unsigned ref_read_ticket/,/^}/{s/unsigned v;/unsigned v, late = 0;/;s/return 3;/late = 3;/;s/^    if \(!field\(&r, 10/    if (late) return late;\n&/}'
+    '/^static unsigned read_fields/,/^}/{s/unsigned v;/unsigned v, late = 0;/;s/return 3;/late = 3;/;s/^    if \(!field\(&r, 10/    if (late) return late;\n&/}'
 mutant 'closing bits not looked at' 's/field\(r, \(unsigned\)left, &bits\) && bits == 0/true/'
 mutant 'a byte after the end accepted' 's/left < 8 && (field.*);/left >= 8 || (\1);/'
 
@@ -219,11 +332,11 @@ mutant '16 tested before 15' \
 mutant 'unfinished sheets pass' 's/return 15;/return closes(r) ? 0 : 16;/'
 mutant 'every job called unfinished' 's/return closes\(r\) \? 0 : 16/return 15/'
 mutant 'rounds charged to the last reference only (L7)' \
-    '/^static unsigned check_rounds/,/^}/s/^        next_read = consume.*/if (next_read == job->references) idle++;\n&/
+    '/^static unsigned check_rounds/,/^}/s/^        next_read = consume.*/if (next_read == job->stop) idle++;\n&/
      s/^    unsigned next_read = 0;/    unsigned next_read = 0, idle = 0;/
      s/return closes\(r\) \? 0 : 16;/{ counts->rounds -= (uint16_t)idle; return closes(r) ? 0 : 16; }/'
 mutant 'fetches counted to the last reference only' \
-    '/^static unsigned check_rounds/,/^}/s/\+= a.fetch != REF_NONE/+= a.fetch != REF_NONE \&\& next_read < job->references/'
+    '/^static unsigned check_rounds/,/^}/s/\+= a.fetch != REF_NONE/+= a.fetch != REF_NONE \&\& next_read < job->stop/'
 mutant 'a missing last bit read as 0' 's/if \(width > 8 \* r->len - r->at\)/if (width > 1 \&\& width > 8 * r->len - r->at)/'
 
 # The choice
@@ -298,8 +411,8 @@ mutant '18 for the page' 's/return 19;/return 18;/'
 mutant '19 before 18' "$(before_number "if (number == 18 \\&\\& $page_length > ng) return 19;")"
 mutant '19 before 17' "$(before_number "if (number == 17 \\&\\& $page_length > ng) return 19;")"
 mutant "19 before the ticket's numbers" "$(before_number 'if (number < 9 \&\& ng < REF_LEGEND * REF_LINE) return 19;')"
-mutant '17 not tested with a page' "${in_page}s/draw_up\\(ticket, n, room/draw_up(ticket, n, (const size_t[]){REF_SHEET, np}/"
-mutant '18 not tested with a page' "${in_page}s/draw_up\\(ticket, n, room/draw_up(ticket, n, (const size_t[]){ns, REF_SHEET}/"
+mutant '17 not tested with a page' "${in_page}s/draw_up\\(ticket, n, stop, room/draw_up(ticket, n, stop, (const size_t[]){REF_SHEET, np}/"
+mutant '18 not tested with a page' "${in_page}s/draw_up\\(ticket, n, stop, room/draw_up(ticket, n, stop, (const size_t[]){ns, REF_SHEET}/"
 mutant 'sheets written although 19' 's/^    if \(length > ng\)/    write_sheets(\&drawn, buffer, room);\n&/'
 mutant 'sheet of P-MIN written although 18, with a page' "$in_page$written_first"
 mutant 'the page begun although 19' 's/^    if \(length > ng\)/    if (ng > 0) page[0] = 32;\n&/'
@@ -318,6 +431,16 @@ searched 'P-CON never waits' "$no_wait" 'NOT THE LEAST'
 searched 'P-MIN waits too' "$all_wait" 'NOT THE LEAST'
 searched 'demand-only fetching' "$demand" 'NOT THE LEAST'
 searched 'P-CON discards a block due before U' "$early" 'NOT THE LEAST'
+
+# Stops: plans that are beaten, or beat, up to the stop; and plans that what is past it changes
+searched 'the reference at the stop counts too' "$one_more" 'PAST THE STOP COUNTS'
+searched 'the last reference before the stop does not count' "$one_less" 'NOT THE LEAST'
+searched 'a stop of N refused' "$(refused 'stop >= job->references')" 'NOT AS THE END'
+searched 'a reference past the stop is no never' "$no_never" 'NOT THE LEAST'
+searched 'the reference at the stop is no never' "$no_never_at" 'NOT THE LEAST'
+searched 'the min-block by references past the stop' "$min_past" 'NOT AS THE END'
+searched 'P-CON waits by references past the stop' "$wait_past" 'PAST THE STOP COUNTS'
+searched 'the page up to N' "$page_past" 'NOT AS THE END'
 
 # Choices between the sheets of both plans that do not follow their rounds
 searched 'a tie goes to the first' "$tie_first" 'ANOTHER CHOICE'

@@ -1,4 +1,4 @@
-/* reference.c - document 01 and requests L1 to L4, sentence by sentence; words between quotation
+/* reference.c - document 01 and requests L1 to L5, sentence by sentence; words between quotation
  * marks are their own. */
 #include "reference.h"
 
@@ -56,7 +56,7 @@ static void put(struct writer *w, unsigned width, unsigned value)
 /* ---- Ticket ---- */
 
 /* "The ticket is read first, field by field"; "1 and 9 are tested before a field's value". */
-unsigned ref_read_ticket(const uint8_t *ticket, size_t n, struct ref_job *job)
+static unsigned read_fields(const uint8_t *ticket, size_t n, struct ref_job *job)
 {
     struct reader r = {ticket, n, 0};
     unsigned v;
@@ -94,6 +94,37 @@ unsigned ref_read_ticket(const uint8_t *ticket, size_t n, struct ref_job *job)
         job->reference[i] = (uint16_t)v;
     }
     return closes(&r) ? 0 : 8;
+}
+
+/* "21, the stop is above N, tested after 8" */
+unsigned ref_read_ticket(const uint8_t *ticket, size_t n, size_t stop, struct ref_job *job)
+{
+    unsigned number = read_fields(ticket, n, job);
+
+    if (number != 0)
+        return number;
+    if (stop > job->references)
+        return 21;
+    job->stop = (unsigned)stop;
+    return 0;
+}
+
+unsigned ref_references(const uint8_t *ticket, size_t n)
+{
+    struct reader r = {ticket, n, 0};
+    unsigned disks, blocks, references, v;
+
+    if (!field(&r, 4, &disks))
+        return 0;
+    for (unsigned d = 0; d < disks; d++)
+        if (!field(&r, 7, &v))
+            return 0;
+    if (!field(&r, 10, &blocks))
+        return 0;
+    for (unsigned b = 0; b < blocks; b++)
+        if (!field(&r, 3, &v))
+            return 0;
+    return field(&r, 12, &references) ? references : 0;
 }
 
 size_t ref_write_ticket(const struct ref_job *job, uint8_t *buf, size_t room)
@@ -177,17 +208,19 @@ static void act(struct buffers *s, unsigned d, struct ref_action a)
     }
 }
 
-/* "the reading stops at the first missing block or at the end" */
+/* "the reading stops at the first missing block or at the end", which is now the stop: "none at or
+ * past it is consumed" */
 static unsigned consume(const struct ref_job *job, const struct buffers *s, unsigned next_read)
 {
-    while (next_read < job->references && s->resident[job->reference[next_read]])
+    while (next_read < job->stop && s->resident[job->reference[next_read]])
         next_read++;
     return next_read;
 }
 
 /* ---- The two plans ---- */
 
-/* Positions, held "as 16-bit numbers"; never is N, "greatest of all". */
+/* Positions, held "as 16-bit numbers". "The lookup of the next reference now answers 'never' for
+ * references at or past the stop": never is the stop, "greatest of all". */
 struct lookup {
     uint16_t next[REF_REFERENCES];  /* the next position of the same block after this one */
     uint16_t distance[REF_BLOCKS];  /* the first position at or after the next read */
@@ -196,8 +229,8 @@ struct lookup {
 static void build_lookup(const struct ref_job *job, struct lookup *l)
 {
     for (unsigned b = 0; b < job->blocks; b++)
-        l->distance[b] = (uint16_t)job->references;
-    for (unsigned i = job->references; i-- > 0;) {
+        l->distance[b] = (uint16_t)job->stop;
+    for (unsigned i = job->stop; i-- > 0;) {
         l->next[i] = l->distance[job->reference[i]];
         l->distance[job->reference[i]] = (uint16_t)i;
     }
@@ -230,7 +263,7 @@ static void survey(const struct ref_job *job, const struct buffers *s, const str
         if (s->resident[b]) {
             if (v->min_block == REF_NONE || l->distance[b] >= l->distance[v->min_block])
                 v->min_block = (uint16_t)b;
-        } else if (l->distance[b] < job->references) {
+        } else if (l->distance[b] < job->stop) {
             if (v->u == REF_NONE || l->distance[b] < l->distance[v->u])
                 v->u = (uint16_t)b;
         }
@@ -321,7 +354,7 @@ void ref_run(const struct ref_job *job, enum ref_rule rule, struct ref_action *s
     struct run r;
 
     memset(counts, 0, sizeof *counts);
-    for (begin(job, &r); r.next_read < job->references; schedule += job->disks) {
+    for (begin(job, &r); r.next_read < job->stop; schedule += job->disks) {
         play_round(job, rule, &r, schedule, letters);
         for (unsigned d = 0; d < job->disks; d++)
             counts->fetches[d] += schedule[d].fetch != REF_NONE;
@@ -348,11 +381,12 @@ struct drawn {
     struct ref_planned planned;
 };
 
-/* Reads the ticket and plans it; the number, with these rooms for the sheets. */
-static unsigned draw_up(const uint8_t *ticket, size_t n, const size_t *room, struct drawn *drawn)
+/* Reads the ticket and plans it up to the stop; the number, with these rooms for the sheets. */
+static unsigned draw_up(const uint8_t *ticket, size_t n, size_t stop, const size_t *room,
+                        struct drawn *drawn)
 {
     struct ref_planned *p = &drawn->planned;
-    unsigned number = ref_read_ticket(ticket, n, &drawn->job);
+    unsigned number = ref_read_ticket(ticket, n, stop, &drawn->job);
 
     if (number != 0)
         return number;
@@ -377,13 +411,13 @@ static void write_sheets(const struct drawn *drawn, uint8_t *const *buffer, cons
                         buffer[k], room[k]);
 }
 
-unsigned ref_plan(const uint8_t *ticket, size_t n, uint8_t *p_min, size_t ns,
+unsigned ref_plan(const uint8_t *ticket, size_t n, size_t stop, uint8_t *p_min, size_t ns,
                   uint8_t *p_con, size_t np, struct ref_planned *out)
 {
     uint8_t *const buffer[2] = {p_min, p_con};
     const size_t room[2] = {ns, np};
     struct drawn drawn;
-    unsigned number = draw_up(ticket, n, room, &drawn);
+    unsigned number = draw_up(ticket, n, stop, room, &drawn);
 
     memset(out, 0, sizeof *out);
     if (number != 0)
@@ -451,7 +485,7 @@ static void write_page(const struct ref_job *job, enum ref_rule rule, uint8_t *p
     unsigned round = 0;
     struct run r;
 
-    for (begin(job, &r); r.next_read < job->references;) {
+    for (begin(job, &r); r.next_read < job->stop;) {
         play_round(job, rule, &r, actions, letters);
         round++;
         for (unsigned d = 0; d < job->disks; d++, page += REF_LINE)
@@ -461,13 +495,13 @@ static void write_page(const struct ref_job *job, enum ref_rule rule, uint8_t *p
 }
 
 /* "19, the page does not fit, tested after 18" */
-unsigned ref_page(const uint8_t *ticket, size_t n, uint8_t *p_min, size_t ns,
+unsigned ref_page(const uint8_t *ticket, size_t n, size_t stop, uint8_t *p_min, size_t ns,
                   uint8_t *p_con, size_t np, uint8_t *page, size_t ng, struct ref_paged *out)
 {
     uint8_t *const buffer[2] = {p_min, p_con};
     const size_t room[2] = {ns, np};
     struct drawn drawn;
-    unsigned number = draw_up(ticket, n, room, &drawn);
+    unsigned number = draw_up(ticket, n, stop, room, &drawn);
     enum ref_rule rule;
     size_t length;
 
@@ -539,7 +573,7 @@ static unsigned check_rounds(struct reader *r, const struct ref_job *job,
         }
         next_read = consume(job, &s, next_read);
     }
-    if (next_read < job->references)
+    if (next_read < job->stop)
         return 15;
     return closes(r) ? 0 : 16;
 }
@@ -560,12 +594,12 @@ static unsigned check_sheet(const struct ref_job *job, const uint8_t *sheet, siz
     return check_rounds(&r, job, counts);
 }
 
-unsigned ref_check(const uint8_t *ticket, size_t n, const uint8_t *sheet, size_t m,
+unsigned ref_check(const uint8_t *ticket, size_t n, size_t stop, const uint8_t *sheet, size_t m,
                    struct ref_counts *out)
 {
     struct ref_counts counts;
     struct ref_job job;
-    unsigned number = ref_read_ticket(ticket, n, &job);
+    unsigned number = ref_read_ticket(ticket, n, stop, &job);
 
     memset(out, 0, sizeof *out);
     if (number == 0)
@@ -576,14 +610,14 @@ unsigned ref_check(const uint8_t *ticket, size_t n, const uint8_t *sheet, size_t
 }
 
 /* "both are checked, the first before the second, and a failure gives the check's number" */
-unsigned ref_choose(const uint8_t *ticket, size_t n, const uint8_t *first, size_t m1,
+unsigned ref_choose(const uint8_t *ticket, size_t n, size_t stop, const uint8_t *first, size_t m1,
                     const uint8_t *second, size_t m2, struct ref_chosen *out)
 {
     const uint8_t *sheet[2] = {first, second};
     const size_t len[2] = {m1, m2};
     struct ref_counts counts[2];
     struct ref_job job;
-    unsigned number = ref_read_ticket(ticket, n, &job);
+    unsigned number = ref_read_ticket(ticket, n, stop, &job);
 
     memset(out, 0, sizeof *out);
     for (unsigned k = 0; number == 0 && k < 2; k++)

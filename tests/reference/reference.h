@@ -1,4 +1,4 @@
-/* reference.h - the planner of document 01 with requests L1 to L4, written from the papers alone.
+/* reference.h - the planner of document 01 with requests L1 to L5, written from the papers alone.
  *
  * A reference to compare others with: tables and plain passes over the blocks, nothing clever.
  * Every answer "number" is 0, or the number of the refusal in documents 01 and 02. */
@@ -25,13 +25,14 @@ enum {
     REF_CHOSEN_NUMBERS = 2     /* which sheet, and its length */
 };
 
-/* What a ticket says. */
+/* What a ticket says, and how much of it counts. */
 struct ref_job {
     unsigned disks, slots[REF_DISKS];
     unsigned blocks;
     uint8_t disk[REF_BLOCKS];  /* the disk each block lies on */
     unsigned references;
     uint16_t reference[REF_REFERENCES];
+    unsigned stop;             /* "the number of references that count", at most all */
 };
 
 /* What one disk does in one round. A schedule has rounds x disks of them, round by round. */
@@ -60,34 +61,37 @@ struct ref_chosen {
     uint16_t which, length;            /* the sheet handed back: 0 first, 1 second; how long */
 };
 
-/* Ticket to job. The job means nothing where the number is not 0. */
-unsigned ref_read_ticket(const uint8_t *ticket, size_t n, struct ref_job *job);
+/* Ticket and stop to job. The job means nothing where the number is not 0. */
+unsigned ref_read_ticket(const uint8_t *ticket, size_t n, size_t stop, struct ref_job *job);
 
-/* Job to ticket, schedule to sheet. Both give the length needed and write nothing if it is more
- * than room. Values are cut to their fields' widths. */
+/* The N that any bytes say, read as a ticket without a test; 0 if they end before its end. */
+unsigned ref_references(const uint8_t *ticket, size_t n);
+
+/* Job to ticket, of which the stop is no part; schedule to sheet. Both give the length needed and
+ * write nothing if it is more than room. Values are cut to their fields' widths. */
 size_t ref_write_ticket(const struct ref_job *job, uint8_t *buf, size_t room);
 size_t ref_write_sheet(const struct ref_action *schedule, unsigned rounds, unsigned disks,
                        uint8_t *buf, size_t room);
 
-/* The schedule of one rule; room for references x disks actions. */
+/* The schedule of one rule up to the job's stop; room for stop x disks actions. */
 void ref_run(const struct ref_job *job, enum ref_rule rule, struct ref_action *schedule,
              struct ref_counts *counts);
 
-/* Planning: writes both sheets, or nothing if refused; then all of out is 0. */
-unsigned ref_plan(const uint8_t *ticket, size_t n, uint8_t *p_min, size_t ns,
+/* Planning up to a stop: writes both sheets, or nothing if refused; then all of out is 0. */
+unsigned ref_plan(const uint8_t *ticket, size_t n, size_t stop, uint8_t *p_min, size_t ns,
                   uint8_t *p_con, size_t np, struct ref_planned *out);
 
 /* Planning with a page: writes both sheets and the page of the plan handed back, or nothing if
  * refused; then all of out is 0. */
-unsigned ref_page(const uint8_t *ticket, size_t n, uint8_t *p_min, size_t ns,
+unsigned ref_page(const uint8_t *ticket, size_t n, size_t stop, uint8_t *p_min, size_t ns,
                   uint8_t *p_con, size_t np, uint8_t *page, size_t ng, struct ref_paged *out);
 
-/* The check; all of out is 0 if refused. */
-unsigned ref_check(const uint8_t *ticket, size_t n, const uint8_t *sheet, size_t m,
+/* The check up to a stop; all of out is 0 if refused. */
+unsigned ref_check(const uint8_t *ticket, size_t n, size_t stop, const uint8_t *sheet, size_t m,
                    struct ref_counts *out);
 
-/* The choice between two sheets; all of out is 0 if refused. */
-unsigned ref_choose(const uint8_t *ticket, size_t n, const uint8_t *first, size_t m1,
+/* The choice between two sheets up to a stop; all of out is 0 if refused. */
+unsigned ref_choose(const uint8_t *ticket, size_t n, size_t stop, const uint8_t *first, size_t m1,
                     const uint8_t *second, size_t m2, struct ref_chosen *out);
 
 /* The numbers a call from C writes, in order, and how it writes them. */

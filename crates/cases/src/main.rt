@@ -1,6 +1,6 @@
-// The vectors' calls, made through the planner's public calls. Standard input has a call on each line, `plan TICKET ROOM ROOM`,
-// `page TICKET ROOM ROOM ROOM`, `check TICKET SHEET` or `choose TICKET SHEET SHEET`, with bytes in hexadecimal and `-` for none; other lines are
-// comments. Standard output has the same lines, each call followed by ` = ` and what it gives, in the vectors' form.
+// The vectors' calls, made through the planner's public calls. Standard input has a call on each line, `plan TICKET STOP ROOM ROOM`,
+// `page TICKET STOP ROOM ROOM ROOM`, `check TICKET STOP SHEET` or `choose TICKET STOP SHEET SHEET`, with bytes in hexadecimal and `-` for none; other
+// lines are comments. Standard output has the same lines, each call followed by ` = ` and what it gives, in the vectors' form.
 use libc::STDIN_FILENO;
 use libc::STDOUT_FILENO;
 use returning::Counts;
@@ -32,12 +32,12 @@ fn next() -> u8 {
     one[0]
 }
 
-// Reads on past the next byte `stop`, or to the end.
-fn skip(stop: u8) {
+// Reads on past the next byte `last`, or to the end.
+fn skip(last: u8) {
     let mut turns = u64::MAX;
     while turns > 0 {
         let b = next();
-        if b == stop {
+        if b == last {
             return;
         }
         if b == 0 {
@@ -86,16 +86,26 @@ fn read_bytes(out: &mut [u8]) -> usize
     n
 }
 
-// Reads a decimal number of at most six digits, and the byte that ends it.
+// A number with one more decimal digit, or the largest if that does not hold it.
+fn with_digit(n: usize, d: usize) -> usize
+    requires { ⌜ d ≤ 9 ⌝ }
+{
+    if n > (usize::MAX - d) / 10 {
+        return usize::MAX;
+    }
+    n * 10 + d
+}
+
+// Reads a decimal number of at most twenty digits, and the byte that ends it. A number above the largest is read as that.
 fn read_number() -> usize {
     let mut n = 0;
-    let mut left: usize = 7;
+    let mut left: usize = 21;
     while left > 0 {
         let d = digit(next());
         if d > 9 {
             return n;
         }
-        n = n % 100000 * 10 + d as usize;
+        n = with_digit(n, d as usize);
         left -= 1;
     }
     n
@@ -208,14 +218,14 @@ fn write_planned<'a>(p: Planned, short: &'a [u8], sparing: &'a [u8]) {
 }
 
 // Plans a ticket into two filled buffers.
-fn plan_into(ticket: &[u8], short: &mut [u8], sparing: &mut [u8]) {
-    let p = planner::plan(ticket, short, sparing);
+fn plan_into(ticket: &[u8], stop: usize, short: &mut [u8], sparing: &mut [u8]) {
+    let p = planner::plan(ticket, stop, short, sparing);
     write_planned(p, short, sparing);
 }
 
 // Plans a ticket into three filled buffers. After a refusal the page's length is 0 and its buffer as it was filled, so nothing of it is written.
-fn page_into(ticket: &[u8], short: &mut [u8], sparing: &mut [u8], page: &mut [u8]) {
-    let g = planner::plan_with_page(ticket, short, sparing, page);
+fn page_into(ticket: &[u8], stop: usize, short: &mut [u8], sparing: &mut [u8], page: &mut [u8]) {
+    let g = planner::plan_with_page(ticket, stop, short, sparing, page);
     let p = g.planned;
     write_planned(p, short, sparing);
     if p.number == 0 {
@@ -242,12 +252,13 @@ fn within(n: usize, lent: &[u8]) -> usize
 fn plan_line() {
     let mut ticket = io::buffer();
     let n = read_bytes(&mut ticket);
+    let stop = read_number();
     let mut short = [FILL; 40962];
     let mut sparing = [FILL; 40962];
     let a = within(read_number(), &short);
     let b = within(read_number(), &sparing);
     write(b" =");
-    plan_into(&ticket[..n], &mut short[..a], &mut sparing[..b]);
+    plan_into(&ticket[..n], stop, &mut short[..a], &mut sparing[..b]);
 }
 
 // A filled buffer with more bytes than the longest page.
@@ -261,6 +272,7 @@ fn page_buffer() -> [u8; 278630]
 fn page_line() {
     let mut ticket = io::buffer();
     let n = read_bytes(&mut ticket);
+    let stop = read_number();
     let mut short = [FILL; 40962];
     let mut sparing = [FILL; 40962];
     let mut page = page_buffer();
@@ -270,6 +282,7 @@ fn page_line() {
     write(b" =");
     page_into(
         &ticket[..n],
+        stop,
         &mut short[..a],
         &mut sparing[..b],
         &mut page[..c],
@@ -280,10 +293,11 @@ fn page_line() {
 fn check_line() {
     let mut ticket = io::buffer();
     let n = read_bytes(&mut ticket);
+    let stop = read_number();
     let mut sheet = io::large_buffer();
     let m = read_bytes(&mut sheet);
     write(b" =");
-    let c = planner::check(&ticket[..n], &sheet[..m]);
+    let c = planner::check(&ticket[..n], stop, &sheet[..m]);
     write_number(c.number);
     let f = c.fetches;
     if c.number == 0 {
@@ -294,8 +308,8 @@ fn check_line() {
 }
 
 // The choice between two sheets. After a refusal neither is handed back, so nothing more is written.
-fn choose_between<'a>(ticket: &[u8], first: &'a [u8], second: &'a [u8]) {
-    let c = planner::choose(ticket, first, second);
+fn choose_between<'a>(ticket: &[u8], stop: usize, first: &'a [u8], second: &'a [u8]) {
+    let c = planner::choose(ticket, stop, first, second);
     write_number(c.number);
     let sheet = planner::chosen_sheet(first, second, c);
     let which = c.which;
@@ -315,12 +329,13 @@ fn choose_between<'a>(ticket: &[u8], first: &'a [u8], second: &'a [u8]) {
 fn choose_line() {
     let mut ticket = io::buffer();
     let n = read_bytes(&mut ticket);
+    let stop = read_number();
     let mut first = io::large_buffer();
     let m = read_bytes(&mut first);
     let mut second = io::large_buffer();
     let k = read_bytes(&mut second);
     write(b" =");
-    choose_between(&ticket[..n], &first[..m], &second[..k]);
+    choose_between(&ticket[..n], stop, &first[..m], &second[..k]);
 }
 
 // A line `plan` or `page`, after its first letter; the second tells them apart.

@@ -25,7 +25,8 @@ use Rattle.model.specs.Calls.{Which, isFirst, isSecond, ofTwo, whichFor, isShor
 use Rattle.model.specs.Calls.{PlannedPage as PageGiven}
 use Rattle.model.proofs.Choosing.{Lawful, short-lawful, sparing-lawful}
 use Rattle.model.proofs.Page.{SmallRounds, plan-small, reasons-length, reasons-below, page-size}
-use Rattle.model.proofs.Promises.{sound-accepted, short-rounds, sparing-rounds}
+use Rattle.model.proofs.Stop.{sound-job}
+use Rattle.model.proofs.Promises.{short-rounds, sparing-rounds}
 use Rattle.choosing.specs.Choosing.{ruleOf}
 use Rattle.choosing.specs.declared.Rule.{Rule}
 use Rattle.choosing.specs.declared.Rule.the-variants.{Short, Sparing}
@@ -59,8 +60,8 @@ module _ (j : Job) (sound : Sound j) (rule : Rule) where
   rounds-are = length-map plan (map action)
 
   most-rounds : (r : Rule) → rounds (scheduleOf (ruleOf r) j) ≤ 2048
-  most-rounds Short = short-rounds _ j (sound-accepted j sound) .2
-  most-rounds Sparing = sparing-rounds _ j (sound-accepted j sound) .2
+  most-rounds Short = short-rounds _ _ j (sound-job j sound) .2
+  most-rounds Sparing = sparing-rounds _ _ j (sound-job j sound) .2
 
   few-rounds : length plan ≤ 2048
   few-rounds = let e = rounds-are in let m = most-rounds rule in omega (arith, e, m)

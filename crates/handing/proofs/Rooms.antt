@@ -17,7 +17,8 @@ use Rattle.model.specs.Plans.{scheduleOf}
 use Rattle.model.specs.Sheet.{sheetBits, sheetOf}
 use Rattle.model.specs.Calls.{countsOf, plannedFor, withRooms, plannedOf, shortAfter, sparingAfter, written, returned}
 use Rattle.model.specs.Calls.{Planned as PlanGiven}
-use Rattle.model.proofs.Promises.{sound-accepted, short-rounds, sparing-rounds}
+use Rattle.model.proofs.Stop.{sound-job}
+use Rattle.model.proofs.Promises.{short-rounds, sparing-rounds}
 use Rattle.choosing.specs.Choosing.{ruleOf}
 use Rattle.choosing.specs.declared.Rule.{Rule}
 use Rattle.choosing.specs.declared.Rule.the-variants.{Short, Sparing}
@@ -76,8 +77,8 @@ module _ (j : Job) (sound : Sound j) where
   theSchedule rule = scheduleOf (ruleOf rule) j
 
   pub sheet-long : (rule : Rule) → length (sheetOf (theSchedule rule)) ≤ 40962
-  sheet-long Sparing = sparing-rounds _ j (sound-accepted j sound) .3
-  sheet-long Short = short-rounds _ j (sound-accepted j sound) .3
+  sheet-long Sparing = sparing-rounds _ _ j (sound-job j sound) .3
+  sheet-long Short = short-rounds _ _ j (sound-job j sound) .3
 
   module _ (rule : Rule) (r : Totals) (q : r ≡ totalsOf (theSchedule rule)) where
     -- a sheet's bytes, from its bits

@@ -1,4 +1,5 @@
--- A job by value read back: the value of a sound job fits, and is that job; and what one entry of an array says of the job. Assumes nothing.
+-- A job by value read back: the value of a sound job fits, and is that job, also up to a stop; and what one entry of an array says of the job.
+-- Assumes nothing.
 use mathlib.Core.Path.{_≡_, sym, _∙_, subst}
 use mathlib.Core.List.{List, _++_}
 use Prim.Native.Nat.{ℕ, _+_, _-_, _≤_, _<_}
@@ -7,9 +8,10 @@ use lib.Dec.{ltb}
 use borrow.Author.Tests.{ltb-true, ltb-false}
 use Rattle.bits.proofs.Logic.{by-test, getD-same}
 use lib.ListN.{length, take, getD, replicate, length-append, length-replicate, length-take, List·getD-append}
-use lib.Seq.{take-append-seam, getD-append-add, getD-take}
-use Rattle.model.specs.Job.{Job, Sound, diskCount, blockCount, refCount, slotsOf, diskOf, refAt}
-use Rattle.job.specs.Meaning.{jobOf, padTo, stored, Fits}
+use lib.Seq.{take-append-seam, getD-append-add, getD-take, take-take}
+use Rattle.model.specs.Job.{Job, Sound, diskCount, blockCount, refCount, slotsOf, diskOf, refAt, upTo}
+use Rattle.model.proofs.Stop.{stop-sound}
+use Rattle.job.specs.Meaning.{jobOf, padTo, stored, counting, Fits}
 use Rattle.job.specs.declared.Job.{Job as Stored}
 
 length-padTo : (n : ℕ) (l : List ℕ) → length l ≤ n → length (padTo n l) ≡ n
@@ -51,6 +53,25 @@ stored-fits j h = record {
   fewBlocks = h .fewBlocks;
   fewRefs = h .fewRefs;
   sound = subst Sound (sym (jobOf-stored j)) h;
+}
+
+-- With fewer references that count it is the job up to a stop, and fits as well.
+
+pub jobOf-counting : (n : ℕ) (c : Stored) → n ≤ c .count → jobOf (counting n c) ≡ upTo n (jobOf c)
+unfolding jobOf counting upTo
+jobOf-counting n c few = λ i. record { slots = take (c .disks) (c .slots); blockDisks = take (c .blocks) (c .disk); refs = sym (take-take n (c .count) (c .refs) few) i }
+
+pub counting-fits : (n : ℕ) (c : Stored) → n ≤ c .count → Fits c → Fits (counting n c)
+unfolding counting
+counting-fits n c few h = record {
+  longSlots = h .longSlots;
+  longDisk = h .longDisk;
+  longRefs = h .longRefs;
+  smallDisk = h .smallDisk;
+  fewDisks = h .fewDisks;
+  fewBlocks = h .fewBlocks;
+  fewRefs = (let most = h .fewRefs in omega (arith, most));
+  sound = subst Sound (sym (jobOf-counting n c few)) (stop-sound n (jobOf c) (h .sound));
 }
 
 module _ (c : Stored) (h : Fits c) where

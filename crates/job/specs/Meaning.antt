@@ -26,6 +26,10 @@ stored j = record {
   refs = padTo 2048 (j .refs);
 }
 
+-- The value with another count of references; those past it stay in the array.
+unfoldable pub counting : ℕ → Stored → Stored
+counting n c = record { disks = c .disks; slots = c .slots; blocks = c .blocks; disk = c .disk; count = n; refs = c .refs }
+
 -- The counts are within the arrays, and the job is sound.
 pub record Fits (c : Stored) : Type 0 where
   pub longSlots : length (c .slots) ≡ 8

@@ -1,4 +1,4 @@
-// A job by value, as reading a ticket gives it. Entries past the counts are 0.
+// A job by value, as reading a ticket gives it. Entries past the counts are 0, or references of the ticket past a stop.
 pub struct Job {
     // disks D, and the buffer slots of each
     pub disks: usize,
@@ -6,7 +6,7 @@ pub struct Job {
     // blocks B, and the disk of each
     pub blocks: usize,
     pub disk: [u16; 512],
-    // references N, and the block of each
+    // references that count, N of them or as many as a stop says, and the block of each
     pub count: usize,
     pub refs: [u16; 2048],
 }

@@ -7,14 +7,14 @@ use mathlib.Core.List.{List, [], _∷_, _++_, map}
 use Prim.Native.Nat.{ℕ, zero, suc, _/_, _%_, _^_}
 use Prim.Native.String.{String}
 use Rattle.bits.specs.Reading.{Answer, given, refused, bind, _>>=_, _>>_, give, field, refuseIf, many, isClosed, closing, answer, readAll}
-use Rattle.model.specs.Job.{Job}
+use Rattle.model.specs.Job.{Job, upTo}
 use Rattle.model.specs.Ticket.{slotsField, diskField, refField, ticketReader, ticketOf}
 use Rattle.model.specs.Playing.{fetch, replace, Schedule, noneResident, start, load, play}
 use Rattle.model.specs.Text.{text}
 use Rattle.model.specs.Page.{ended}
 use Rattle.model.specs.Sheet.{discardReader, fetchReader, actionReader, roundReader, roundsReader, sheetReader, scheduleRead}
 use Rattle.model.specs.Valid.{discardsFullFrom}
-use Rattle.model.specs.Calls.{Counts, Which, isFirst, isSecond, Mark, isShort, isSparing, Planned, planAnswer, pageAnswer, checkAnswer, ChosenSheet, chooseAnswer, countsNumbers, planningNumbers, choiceNumbers, countsWritten}
+use Rattle.model.specs.Calls.{stopAt, jobUpTo, referencesOf, Counts, Which, isFirst, isSecond, Mark, isShort, isSparing, Planned, planAnswer, pageAnswer, checkAnswer, ChosenSheet, chooseAnswer, countsNumbers, planningNumbers, choiceNumbers, countsWritten}
 
 -- The k bytes whose hexadecimal digits are those of v: `hex 2 0x0018` is 00 18.
 unfoldable pub hex : ℕ → ℕ → List ℕ
@@ -23,7 +23,7 @@ hex (suc k) v = (v / 256 ^ k % 256) ∷ hex k v
 
 -- A call, and what a call gives. `planInto` plans a ticket into two buffers of the lengths that it is given, `plan` into two of the longest sheet's
 -- 40,962 bytes; `page` plans it with a third buffer, and shows the page. A call from C, whose last bytes are a slice for its counts, gives what the
--- slice then has.
+-- slice then has. Each is made with a stop (L5).
 pub data Call : Type 0 where
   read : List ℕ → Call
   plan : List ℕ → Call
@@ -48,25 +48,41 @@ outcomeOf : {A : Type 0} → (A → Outcome) → Answer A → Outcome
 outcomeOf f (given a) = f a
 outcomeOf f (refused n) = number n
 
-unfoldable pub outcome : Call → Outcome
-unfolding outcomeOf ticketOf planAnswer pageAnswer checkAnswer chooseAnswer countsWritten
-outcome (read t) = outcomeOf job (ticketOf t)
-outcome (plan t) = outcomeOf plans (planAnswer t 40962 40962)
-outcome (planInto t room₁ room₂) = outcomeOf plans (planAnswer t room₁ room₂)
-outcome (page t room₁ room₂ room₃) = outcomeOf (λ p. shows (p .page)) (pageAnswer t room₁ room₂ room₃)
-outcome (check t s) = outcomeOf passes (checkAnswer t s)
-outcome (choose t first second) = outcomeOf hands (chooseAnswer t first second)
-outcome (planFromC t lent) = writes (countsWritten planningNumbers (planAnswer t 40962 40962) lent)
-outcome (checkFromC t s lent) = writes (countsWritten countsNumbers (checkAnswer t s) lent)
-outcome (chooseFromC t first second lent) = writes (countsWritten choiceNumbers (chooseAnswer t first second) lent)
+unfoldable pub outcome : ℕ → Call → Outcome
+unfolding outcomeOf jobUpTo planAnswer pageAnswer checkAnswer chooseAnswer countsWritten
+outcome stop (read t) = outcomeOf job (jobUpTo t stop)
+outcome stop (plan t) = outcomeOf plans (planAnswer t stop 40962 40962)
+outcome stop (planInto t room₁ room₂) = outcomeOf plans (planAnswer t stop room₁ room₂)
+outcome stop (page t room₁ room₂ room₃) = outcomeOf (λ p. shows (p .page)) (pageAnswer t stop room₁ room₂ room₃)
+outcome stop (check t s) = outcomeOf passes (checkAnswer t stop s)
+outcome stop (choose t first second) = outcomeOf hands (chooseAnswer t stop first second)
+outcome stop (planFromC t lent) = writes (countsWritten planningNumbers (planAnswer t stop 40962 40962) lent)
+outcome stop (checkFromC t s lent) = writes (countsWritten countsNumbers (checkAnswer t stop s) lent)
+outcome stop (chooseFromC t first second lent) = writes (countsWritten choiceNumbers (chooseAnswer t stop first second) lent)
 
 pub record Case : Type 0 where
   pub call : Call
+  pub stop : ℕ
   pub gives : Outcome
-  pub holds : outcome call ≡ gives
+  pub holds : outcome stop call ≡ gives
 
-abbrev row : (c : Call) (o : Outcome) → outcome c ≡ o → Case
-row c o e = record { call = c; gives = o; holds = e }
+-- a call with a stop; and one with the stop N of its ticket
+abbrev rowUpTo : (stop : ℕ) (c : Call) (o : Outcome) → outcome stop c ≡ o → Case
+rowUpTo stop c o e = record { call = c; stop = stop; gives = o; holds = e }
+
+ticketIn : Call → List ℕ
+ticketIn (read t) = t
+ticketIn (plan t) = t
+ticketIn (planInto t room₁ room₂) = t
+ticketIn (page t room₁ room₂ room₃) = t
+ticketIn (check t s) = t
+ticketIn (choose t first second) = t
+ticketIn (planFromC t lent) = t
+ticketIn (checkFromC t s lent) = t
+ticketIn (chooseFromC t first second lent) = t
+
+abbrev row : (c : Call) (o : Outcome) → outcome (referencesOf (ticketOf (ticketIn c))) c ≡ o → Case
+row c o e = rowUpTo (referencesOf (ticketOf (ticketIn c))) c o e
 
 abbrev jobWith : List ℕ → List ℕ → List ℕ → Outcome
 jobWith slots disks refs = job (record { slots = slots; blockDisks = disks; refs = refs })
@@ -134,7 +150,11 @@ ticketTen = hex 54 0x10232800000000000000000000000000000000000000000000000000000
 abbrev ticketBoth : List ℕ
 ticketBoth = hex 17 0x2040406001240200604028000202008000
 
--- the lines of the pages of F, of G and of these two jobs
+-- one disk, two slots, three blocks, string 0 1 2 1
+abbrev ticketAgain : List ℕ
+ticketAgain = hex 10 0x10401800010000101004
+
+-- the lines of the pages of F, of G, of G up to 5, and of two of these jobs
 abbrev linesF : List String
 linesF =
     "   1 0   0 --- E" ∷
@@ -161,6 +181,18 @@ linesG =
     "   5 1   4   7 M" ∷
     "   6 0   3   2 M" ∷
     "   6 1 --- --- N" ∷
+    []
+
+abbrev linesG5 : List String
+linesG5 =
+    "   1 0   0 --- E" ∷
+    "   1 1   4 --- E" ∷
+    "   2 0   1 --- E" ∷
+    "   2 1 --- --- N" ∷
+    "   3 0   2 --- E" ∷
+    "   3 1 --- --- N" ∷
+    "   4 0   3   2 M" ∷
+    "   4 1 --- --- N" ∷
     []
 
 abbrev linesBoth : List String
@@ -195,7 +227,7 @@ linesTen =
 -- inside the first fetch bit, since a sheet has whole bytes; 11 for a block of B or more and 12, since no such block is ever in a buffer; 13
 -- and either of 20 and 14, since the discard bit leads to 13 or to those two.
 pub table : List Case
-unfolding hex outcome text ended _>>=_ _>>_ bind give field refuseIf many isClosed closing answer readAll slotsField diskField refField ticketReader ticketOf discardReader fetchReader actionReader roundReader roundsReader sheetReader scheduleRead play load noneResident
+unfolding hex outcome ticketIn stopAt upTo jobUpTo text ended _>>=_ _>>_ bind give field refuseIf many isClosed closing answer readAll slotsField diskField refField ticketReader ticketOf discardReader fetchReader actionReader roundReader roundsReader sheetReader scheduleRead play load noneResident
 table =
     -- A: "one disk, one slot, one block, string 0. Both sheets 00 18 00; 1 round; sparing"
     row (read ticketA) (jobWith (1 ∷ []) (0 ∷ []) (0 ∷ [])) refl ∷
@@ -379,6 +411,42 @@ table =
     row (page ticketF 14 10 0) (number 18) refl ∷
     row (page ticketF 13 11 0) (number 17) refl ∷
     row (page (hex 7 0x10200800100000) 40962 40962 0) (number 8) refl ∷
+    -- Request L5: "the number of references that count; none at or past it is consumed". A up to 0, and G up to 5, where disk 1 has no U after block 4:
+    -- its plans, a check of them, a choice, and the page. G's own short sheet also passes there, and A's passes for no reference.
+    rowUpTo 0 (read ticketA) (jobWith (1 ∷ []) (0 ∷ []) []) refl ∷
+    rowUpTo 0 (plan ticketA) (planned isSparing 2 (counts 0 0 0) (counts 0 0 0) (hex 2 0x0000) (hex 2 0x0000)) refl ∷
+    rowUpTo 0 (check ticketA (hex 2 0x0000)) (passes (counts 0 0 0)) refl ∷
+    rowUpTo 0 (check ticketA (hex 3 0x001800)) (passes (counts 1 1 0)) refl ∷
+    rowUpTo 5 (read ticketG) (jobWith (3 ∷ 3 ∷ []) (0 ∷ 0 ∷ 0 ∷ 0 ∷ 1 ∷ 1 ∷ 1 ∷ 1 ∷ []) (0 ∷ 1 ∷ 2 ∷ 4 ∷ 3 ∷ [])) refl ∷
+    rowUpTo 5 (plan ticketG) (planned isSparing 10 (counts 4 4 1) (counts 4 4 1) (hex 10 0x00480102201202203808) (hex 10 0x00480102201202203808)) refl ∷
+    rowUpTo 5 (check ticketG (hex 10 0x00480102201202203808)) (passes (counts 4 4 1)) refl ∷
+    rowUpTo 5 (check ticketG (hex 23 0x0068010220140a8090320380a078120280e0481e038080)) (passes (counts 6 6 5)) refl ∷
+    rowUpTo 5 (choose ticketG (hex 23 0x0068010220140a8090320380a078120280e0481e038080) (hex 10 0x00480102201202203808)) (chose isSecond 10) refl ∷
+    rowUpTo 5 (page ticketG 10 10 221) (pageWith linesG5) refl ∷
+    -- The reference at the stop is the first that does not count: after that sheet the references 5 and 6 are in the buffers, and 7 is not.
+    rowUpTo 7 (check ticketG (hex 10 0x00480102201202203808)) (passes (counts 4 4 1)) refl ∷
+    rowUpTo 8 (check ticketG (hex 10 0x00480102201202203808)) (number 15) refl ∷
+    -- "The lookup of the next reference now answers "never" for references at or past the stop": for the string 0 1 2 1 block 2 replaces block 0, which is
+    -- not read again; up to 3 neither of the two is, and it replaces block 1, the highest.
+    row (plan ticketAgain) (planned isSparing 7 (counts 3 3 0) (counts 3 3 0) (hex 7 0x00380100a02800) (hex 7 0x00380100a02800)) refl ∷
+    rowUpTo 3 (plan ticketAgain) (planned isSparing 7 (counts 3 3 0) (counts 3 3 0) (hex 7 0x00380100a02804) (hex 7 0x00380100a02804)) refl ∷
+    -- "21, the stop is above N, tested after 8": a stop of N + 1 with no room and with the empty sheet, and a very large one; the ticket's number comes
+    -- first, 1 and 8, with either. (A stop of N is that of every row without one.)
+    rowUpTo 2 (planInto ticketA 0 0) (number 21) refl ∷
+    rowUpTo 2 (page ticketA 0 0 0) (number 21) refl ∷
+    rowUpTo 2 (check ticketA []) (number 21) refl ∷
+    rowUpTo 2 (choose ticketA [] []) (number 21) refl ∷
+    rowUpTo 18446744073709551615 (plan ticketA) (number 21) refl ∷
+    rowUpTo 1 (plan ticketB) (number 21) refl ∷
+    rowUpTo 1 (plan []) (number 1) refl ∷
+    rowUpTo 2 (planInto (hex 6 0x102008001001) 0 0) (number 8) refl ∷
+    rowUpTo 2 (page (hex 7 0x10200800100000) 0 0 0) (number 8) refl ∷
+    rowUpTo 2 (check (hex 6 0x102008001001) []) (number 8) refl ∷
+    rowUpTo 2 (choose (hex 7 0x10200800100000) [] []) (number 8) refl ∷
+    -- A refusal by the stop writes nothing, from C.
+    rowUpTo 2 (planFromC ticketA (hex 3 0xffffff)) (writes (hex 3 0xffffff)) refl ∷
+    rowUpTo 2 (checkFromC ticketA (hex 3 0x001800) (hex 3 0xffffff)) (writes (hex 3 0xffffff)) refl ∷
+    rowUpTo 2 (chooseFromC ticketA (hex 3 0x001800) (hex 3 0x001800) (hex 3 0xffffff)) (writes (hex 3 0xffffff)) refl ∷
     -- From C: "in 16 bits each and most significant byte first: for planning the mark (0 short, 1 sparing), the length of the part, then for the short
     -- and for the sparing plan the rounds and eight fetch counts; for the check the rounds and eight fetch counts", and by L1 "0 (first) or 1 (second)
     -- and that sheet's length". "As far as that slice reaches", and no byte more; "a refusal writes nothing there".

@@ -16,47 +16,47 @@ use Rattle.bits.proofs.Logic.{by-test, Each}
 use Rattle.bits.proofs.Bits.{Bits, bits-pack, digits-are}
 use Rattle.bits.proofs.Reading.{refused-given}
 use Rattle.model.specs.Job.{Sound, Job, diskCount, refCount}
-use Rattle.model.specs.Ticket.{ticketOf}
 use Rattle.model.specs.Playing.{Action, idle, fetch, replace, Schedule, State, start, playRound, play, rounds, fetched, total, fetches}
 use Rattle.model.specs.Rules.{action, Rule, short, sparing}
 use Rattle.model.specs.Plans.{each, choices, planFrom, planOf, scheduleOf}
 use Rattle.model.specs.Sheet.{actionBits, roundBits, roundsBits, sheetBits, sheetOf}
 use Rattle.model.specs.Valid.{Ready, ValidFrom, discardsFullFrom, LegalSheet, ValidSheet}
-use Rattle.model.specs.Calls.{Counts, countsOf, fetchesOn, shortCounts, sparingCounts, Which, isFirst, isSecond, ofTwo, whichFor, Mark, isShort, isSparing, Planned, markFor, chosen, handed, handedCounts, plannedOf, withRooms, plannedFor, planAnswer, returned, partAfter, passOf, checkFor, checkAnswer}
+use Rattle.model.specs.Calls.{jobUpTo, Counts, countsOf, fetchesOn, shortCounts, sparingCounts, Which, isFirst, isSecond, ofTwo, whichFor, Mark, isShort, isSparing, Planned, markFor, chosen, handed, handedCounts, plannedOf, withRooms, plannedFor, planAnswer, returned, partAfter, passOf, checkFor, checkAnswer}
 use Rattle.model.proofs.Choosing.{Lawful, short-lawful, sparing-lawful}
 use Rattle.model.proofs.Rounds.{ready-start, ready-after}
 use Rattle.model.proofs.Plans.{length-each, actionsOf, plan-round, plan-consumes, plan-valid, plan-full, plan-few}
 use Rattle.model.proofs.Short.{ahead-self, short-unbeaten}
 use Rattle.model.proofs.Sparing.{sparing-unbeaten}
-use Rattle.model.proofs.Check.{passed, ticket-sound}
+use Rattle.model.proofs.Stop.{job-sound}
+use Rattle.model.proofs.Check.{passed}
 use Rattle.model.proofs.Validity.{read-valid, legal-read}
 use Rattle.model.proofs.Longest.{passed-length}
 
 -- a pass, and the valid sheets
 
--- an accepted ticket says one job
-one-job : (t : List ℕ) {i j : Job} → ticketOf t ≡ given i → ticketOf t ≡ given j → i ≡ j
-one-job t p q = cc
+-- an accepted ticket says one job up to a stop
+one-job : (t : List ℕ) (stop : ℕ) {i j : Job} → jobUpTo t stop ≡ given i → jobUpTo t stop ≡ given j → i ≡ j
+one-job t stop p q = cc
 
-pub passes-valid : (t s : List ℕ) (c : Counts) → checkAnswer t s ≡ given c
-    → (j : Job) × (schedule : Schedule) × (ticketOf t ≡ given j) × ValidSheet j s schedule × (countsOf schedule ≡ c)
-passes-valid t s c e =
-    let p = passed t s c e in
+pub passes-valid : (t : List ℕ) (stop : ℕ) (s : List ℕ) (c : Counts) → checkAnswer t stop s ≡ given c
+    → (j : Job) × (schedule : Schedule) × (jobUpTo t stop ≡ given j) × ValidSheet j s schedule × (countsOf schedule ≡ c)
+passes-valid t stop s c e =
+    let p = passed t stop s c e in
     (p .job, p .schedule, p .ticket, read-valid (p .job) (p .sound) s (p .schedule) (p .read), p .counts)
 
 -- what the check gives for a sheet of document 01
-pub legal-answer : (t s : List ℕ) (j : Job) (schedule : Schedule) → ticketOf t ≡ given j → LegalSheet j s schedule
-    → checkAnswer t s ≡ cond (discardsFullFrom j (start j) schedule) (given (countsOf schedule)) (refused 20)
+pub legal-answer : (t : List ℕ) (stop : ℕ) (s : List ℕ) (j : Job) (schedule : Schedule) → jobUpTo t stop ≡ given j → LegalSheet j s schedule
+    → checkAnswer t stop s ≡ cond (discardsFullFrom j (start j) schedule) (given (countsOf schedule)) (refused 20)
 unfolding checkAnswer checkFor passOf
-legal-answer t s j schedule e v = ap (checkFor s) e ∙ ap passOf (legal-read j (ticket-sound t j e) s schedule v) ∙ pass-if (discardsFullFrom j (start j) schedule)
+legal-answer t stop s j schedule e v = ap (checkFor s) e ∙ ap passOf (legal-read j (job-sound t stop j e) s schedule v) ∙ pass-if (discardsFullFrom j (start j) schedule)
   where
     pass-if : (full : Bool) → passOf (cond full (given schedule) (refused 20)) ≡ cond full (given (countsOf schedule)) (refused 20)
     pass-if true = refl
     pass-if false = refl
 
-pub valid-passes : (t s : List ℕ) (j : Job) (schedule : Schedule) → ticketOf t ≡ given j → ValidSheet j s schedule → checkAnswer t s ≡ given (countsOf schedule)
-valid-passes t s j schedule e v =
-    legal-answer t s j schedule e (v .legal) ∙ ap (λ (full : Bool). cond full (given (countsOf schedule)) (refused 20)) (v .full)
+pub valid-passes : (t : List ℕ) (stop : ℕ) (s : List ℕ) (j : Job) (schedule : Schedule) → jobUpTo t stop ≡ given j → ValidSheet j s schedule → checkAnswer t stop s ≡ given (countsOf schedule)
+valid-passes t stop s j schedule e v =
+    legal-answer t stop s j schedule e (v .legal) ∙ ap (λ (full : Bool). cond full (given (countsOf schedule)) (refused 20)) (v .full)
 
 -- the eight counts
 
@@ -129,18 +129,18 @@ module _ (j : Job) (sound : Sound j) (schedule : Schedule) (v : ValidFrom j (sta
   )
 
 -- Of any sheet that document 01 lets pass,
-pub legal-unbeaten : (t s : List ℕ) (j : Job) (schedule : Schedule) → ticketOf t ≡ given j → LegalSheet j s schedule
+pub legal-unbeaten : (t : List ℕ) (stop : ℕ) (s : List ℕ) (j : Job) (schedule : Schedule) → jobUpTo t stop ≡ given j → LegalSheet j s schedule
     → (shortCounts j .rounds ≤ countsOf schedule .rounds) × ((d : ℕ) → fetchesOn (sparingCounts j) d ≤ fetchesOn (countsOf schedule) d)
-legal-unbeaten t s j schedule e v = counts-unbeaten j (ticket-sound t j e) schedule (v .valid)
+legal-unbeaten t stop s j schedule e v = counts-unbeaten j (job-sound t stop j e) schedule (v .valid)
 
 -- so of any that passes.
-pub unbeaten : (t s : List ℕ) (j : Job) (c : Counts) → ticketOf t ≡ given j → checkAnswer t s ≡ given c
+pub unbeaten : (t : List ℕ) (stop : ℕ) (s : List ℕ) (j : Job) (c : Counts) → jobUpTo t stop ≡ given j → checkAnswer t stop s ≡ given c
     → (shortCounts j .rounds ≤ c .rounds) × ((d : ℕ) → fetchesOn (sparingCounts j) d ≤ fetchesOn c d)
-unbeaten t s j c e pass =
-    let v = passes-valid t s c pass in
-    let sheet = subst (λ (x : Job). ValidSheet x s (v .1)) (one-job t (v .2) e) (v .3) in
+unbeaten t stop s j c e pass =
+    let v = passes-valid t stop s c pass in
+    let sheet = subst (λ (x : Job). ValidSheet x s (v .1)) (one-job t stop (v .2) e) (v .3) in
     subst (λ (x : Counts). (shortCounts j .rounds ≤ x .rounds) × ((d : ℕ) → fetchesOn (sparingCounts j) d ≤ fetchesOn x d)) (v .4)
-    (legal-unbeaten t s j (v .1) e (sheet .legal))
+    (legal-unbeaten t stop s j (v .1) e (sheet .legal))
 
 -- Demand 2. The bits of a sheet are bits, so its bytes hold them and the closing zeros.
 
@@ -170,9 +170,9 @@ legal-sheet j schedule few v =
     let p = bits-pack (sheetBits schedule) (sheet-bits schedule) in
     record { fewRounds = few; valid = v; closingBits = p .0; fewClosing = p .1; written = p .2 }
 
-module _ (rule : Rule) (lawful : Lawful rule) (t : List ℕ) (j : Job) (e : ticketOf t ≡ given j) where
+module _ (rule : Rule) (lawful : Lawful rule) (t : List ℕ) (stop : ℕ) (j : Job) (e : jobUpTo t stop ≡ given j) where
   sound : Sound j
-  sound = ticket-sound t j e
+  sound = job-sound t stop j e
 
   pub schedule-valid : ValidFrom j (start j) (scheduleOf rule j)
   unfolding scheduleOf planOf start
@@ -193,15 +193,15 @@ module _ (rule : Rule) (lawful : Lawful rule) (t : List ℕ) (j : Job) (e : tick
   pub schedule-most : rounds (scheduleOf rule j) ≤ 2048
   schedule-most = let f = schedule-few in let n = sound .fewRefs in omega (arith, f, n)
 
-  pub schedule-passes : checkAnswer t (sheetOf (scheduleOf rule j)) ≡ given (countsOf (scheduleOf rule j))
+  pub schedule-passes : checkAnswer t stop (sheetOf (scheduleOf rule j)) ≡ given (countsOf (scheduleOf rule j))
   unfolding rounds
   schedule-passes =
-      valid-passes t (sheetOf (scheduleOf rule j)) j (scheduleOf rule j) e
+      valid-passes t stop (sheetOf (scheduleOf rule j)) j (scheduleOf rule j) e
       (record { legal = legal-sheet j (scheduleOf rule j) schedule-most schedule-valid; full = schedule-full })
 
   -- "every plan's sheet .. fits the longest sheet's room"
   pub schedule-fits : length (sheetOf (scheduleOf rule j)) ≤ 40962
-  schedule-fits = passed-length t (sheetOf (scheduleOf rule j)) _ schedule-passes
+  schedule-fits = passed-length t stop (sheetOf (scheduleOf rule j)) _ schedule-passes
 
 -- "In either plan every round consumes at least one reference."
 
@@ -227,19 +227,19 @@ consumes-from rule lawful j sound (suc most) s ready k l =
     step ih zero l due = plan-consumes rule lawful j sound s ready due
     step ih (suc k) l due = ih k (omega arith)
 
-schedule-consumes : (rule : Rule) → Lawful rule → (t : List ℕ) (j : Job) → ticketOf t ≡ given j → (k : ℕ) → k < rounds (scheduleOf rule j)
+schedule-consumes : (rule : Rule) → Lawful rule → (t : List ℕ) (stop : ℕ) (j : Job) → jobUpTo t stop ≡ given j → (k : ℕ) → k < rounds (scheduleOf rule j)
     → play j (start j) (take k (scheduleOf rule j)) .next < play j (start j) (take (suc k) (scheduleOf rule j)) .next
 unfolding scheduleOf planOf rounds
-schedule-consumes rule lawful t j e =
-    let sound = ticket-sound t j e in
+schedule-consumes rule lawful t stop j e =
+    let sound = job-sound t stop j e in
     consumes-from rule lawful j sound (refCount j) (start j) (ready-start j (sound .fewBlocks))
 
 -- The sheet that planning hands back.
 
 -- what a planning call that is not refused gives
-pub planned : (t : List ℕ) (a b : ℕ) (p : Planned) → planAnswer t a b ≡ given p → (j : Job) × (ticketOf t ≡ given j) × (plannedOf (scheduleOf short j) (scheduleOf sparing j) ≡ p)
+pub planned : (t : List ℕ) (stop a b : ℕ) (p : Planned) → planAnswer t stop a b ≡ given p → (j : Job) × (jobUpTo t stop ≡ given j) × (plannedOf (scheduleOf short j) (scheduleOf sparing j) ≡ p)
 unfolding planAnswer plannedFor withRooms
-planned t a b p e = go (ticketOf t) refl e
+planned t stop a b p e = go (jobUpTo t stop) refl e
   where
     fits : (q : Planned) → withRooms a b q ≡ given p → q ≡ p
     fits q h =
@@ -250,7 +250,7 @@ planned t a b p e = go (ticketOf t) refl e
         (λ y. refused-given (rw y at k))
         (λ m. let f : given q ≡ given p = rw m at k in cc))
 
-    go : (x : Answer Job) → ticketOf t ≡ x → plannedFor a b x ≡ given p → (j : Job) × (ticketOf t ≡ given j) × (plannedOf (scheduleOf short j) (scheduleOf sparing j) ≡ p)
+    go : (x : Answer Job) → jobUpTo t stop ≡ x → plannedFor a b x ≡ given p → (j : Job) × (jobUpTo t stop ≡ given j) × (plannedOf (scheduleOf short j) (scheduleOf sparing j) ≡ p)
     go (given j) q h = (j, q, fits _ h)
     go (refused n) q h = refused-given h
 
@@ -280,49 +280,49 @@ chosen-two isFirst a b = refl
 chosen-two isSecond a b = refl
 
 -- what is said of the sheet handed back
-abbrev HandedBack : List ℕ → Planned → Type 0
-HandedBack t p =
+abbrev HandedBack : List ℕ → ℕ → Planned → Type 0
+HandedBack t stop p =
     ((p .mark ≡ isSparing) ↔ (p .short .rounds ≡ p .sparing .rounds))
     × (length (handed p) ≡ p .partLength)
-    × (checkAnswer t (handed p) ≡ given (handedCounts p))
-    × ((s : List ℕ) (c : Counts) → checkAnswer t s ≡ given c → (handedCounts p .rounds ≤ c .rounds) × ((d : ℕ) → fetchesOn (p .sparing) d ≤ fetchesOn c d))
+    × (checkAnswer t stop (handed p) ≡ given (handedCounts p))
+    × ((s : List ℕ) (c : Counts) → checkAnswer t stop s ≡ given c → (handedCounts p .rounds ≤ c .rounds) × ((d : ℕ) → fetchesOn (p .sparing) d ≤ fetchesOn c d))
 
 -- either plan's sheet, where the mark says that it is as short as the short plan's
-handed-of : (t : List ℕ) (j : Job) → ticketOf t ≡ given j → (m : Mark) → markFor (rounds (scheduleOf short j)) (rounds (scheduleOf sparing j)) ≡ m
-    → (checkAnswer t (chosen m (sheetOf (scheduleOf short j)) (sheetOf (scheduleOf sparing j))) ≡ given (chosen m (shortCounts j) (sparingCounts j)))
-    × ((s : List ℕ) (c : Counts) → checkAnswer t s ≡ given c → chosen m (shortCounts j) (sparingCounts j) .rounds ≤ c .rounds)
+handed-of : (t : List ℕ) (stop : ℕ) (j : Job) → jobUpTo t stop ≡ given j → (m : Mark) → markFor (rounds (scheduleOf short j)) (rounds (scheduleOf sparing j)) ≡ m
+    → (checkAnswer t stop (chosen m (sheetOf (scheduleOf short j)) (sheetOf (scheduleOf sparing j))) ≡ given (chosen m (shortCounts j) (sparingCounts j)))
+    × ((s : List ℕ) (c : Counts) → checkAnswer t stop s ≡ given c → chosen m (shortCounts j) (sparingCounts j) .rounds ≤ c .rounds)
 unfolding shortCounts sparingCounts
-handed-of t j e isShort q = (schedule-passes short short-lawful t j e, λ s c h. unbeaten t s j c e h .0)
-handed-of t j e isSparing q = (
-  schedule-passes sparing sparing-lawful t j e,
-  λ s c h. (let k = unbeaten t s j c e h .0 in let few = mark-sparing (rounds (scheduleOf short j)) (rounds (scheduleOf sparing j)) .0 q in omega (arith, k, few)),
+handed-of t stop j e isShort q = (schedule-passes short short-lawful t stop j e, λ s c h. unbeaten t stop s j c e h .0)
+handed-of t stop j e isSparing q = (
+  schedule-passes sparing sparing-lawful t stop j e,
+  λ s c h. (let k = unbeaten t stop s j c e h .0 in let few = mark-sparing (rounds (scheduleOf short j)) (rounds (scheduleOf sparing j)) .0 q in omega (arith, k, few)),
 )
 
 -- the sparing plan takes no fewer rounds than the short one, so no more means equally many
-mark-equal : (t : List ℕ) (j : Job) → ticketOf t ≡ given j
+mark-equal : (t : List ℕ) (stop : ℕ) (j : Job) → jobUpTo t stop ≡ given j
     → (markFor (rounds (scheduleOf short j)) (rounds (scheduleOf sparing j)) ≡ isSparing) ↔ (rounds (scheduleOf short j) ≡ rounds (scheduleOf sparing j))
 unfolding shortCounts countsOf
-mark-equal t j e =
+mark-equal t stop j e =
     let a = rounds (scheduleOf short j) in
     let b = rounds (scheduleOf sparing j) in
-    let least : a ≤ b = unbeaten t (sheetOf (scheduleOf sparing j)) j (countsOf (scheduleOf sparing j)) e (schedule-passes sparing sparing-lawful t j e) .0 in
+    let least : a ≤ b = unbeaten t stop (sheetOf (scheduleOf sparing j)) j (countsOf (scheduleOf sparing j)) e (schedule-passes sparing sparing-lawful t stop j e) .0 in
     (λ q. let few = mark-sparing a b .0 q in omega (arith, least, few), λ q. mark-sparing a b .1 (omega (arith, q)))
 
 part-of : (a b : Schedule) (m : Mark) → length (chosen m (sheetOf a) (sheetOf b)) ≡ chosen m (length (sheetOf a)) (length (sheetOf b))
 part-of a b isShort = refl
 part-of a b isSparing = refl
 
-pub handed-back : (t : List ℕ) (a b : ℕ) (p : Planned) → planAnswer t a b ≡ given p → HandedBack t p
+pub handed-back : (t : List ℕ) (stop a b : ℕ) (p : Planned) → planAnswer t stop a b ≡ given p → HandedBack t stop p
 unfolding plannedOf countsOf shortCounts sparingCounts
-handed-back t a b p e =
-    let w = planned t a b p e in
+handed-back t stop a b p e =
+    let w = planned t stop a b p e in
     let j = w .0 in
-    let h = handed-of t j (w .1) (markFor (rounds (scheduleOf short j)) (rounds (scheduleOf sparing j))) refl in
-    subst (HandedBack t) (w .2) (
-      mark-equal t j (w .1),
+    let h = handed-of t stop j (w .1) (markFor (rounds (scheduleOf short j)) (rounds (scheduleOf sparing j))) refl in
+    subst (HandedBack t stop) (w .2) (
+      mark-equal t stop j (w .1),
       part-of (scheduleOf short j) (scheduleOf sparing j) (markFor (rounds (scheduleOf short j)) (rounds (scheduleOf sparing j))),
       h .0,
-      λ s c pass. (h .1 s c pass, unbeaten t s j c (w .1) pass .1),
+      λ s c pass. (h .1 s c pass, unbeaten t stop s j c (w .1) pass .1),
     )
 
 -- the part of the two buffers is the sheet that is handed back
@@ -335,15 +335,15 @@ part-chosen : (m : Mark) (a b x y : List ℕ) → take (length (chosen m a b)) (
 part-chosen isShort a b x y = take-over a x
 part-chosen isSparing a b x y = take-over b y
 
-pub plan-given : (t : List ℕ) (a b : ℕ) (p : Planned) → planAnswer t a b ≡ given p
+pub plan-given : (t : List ℕ) (stop a b : ℕ) (p : Planned) → planAnswer t stop a b ≡ given p
     → (let r = returned (given p) in (r .number ≡ 0) × (r .mark ≡ some (p .mark)) × (r .partLength ≡ length (handed p)) × (r .short ≡ p .short) × (r .sparing ≡ p .sparing))
 unfolding returned
-plan-given t a b p e = (refl, refl, sym (handed-back t a b p e .1), refl, refl)
+plan-given t stop a b p e = (refl, refl, sym (handed-back t stop a b p e .1), refl, refl)
 
-pub part-handed : (t short′ sparing′ : List ℕ) (p : Planned) → planAnswer t (length short′) (length sparing′) ≡ given p → partAfter (given p) short′ sparing′ ≡ handed p
+pub part-handed : (t : List ℕ) (stop : ℕ) (short′ sparing′ : List ℕ) (p : Planned) → planAnswer t stop (length short′) (length sparing′) ≡ given p → partAfter (given p) short′ sparing′ ≡ handed p
 unfolding partAfter plannedOf countsOf
-part-handed t short′ sparing′ p e =
-    let w = planned t (length short′) (length sparing′) p e in
+part-handed t stop short′ sparing′ p e =
+    let w = planned t stop (length short′) (length sparing′) p e in
     let j = w .0 in
     let a = scheduleOf short j in
     let b = scheduleOf sparing j in
@@ -352,12 +352,12 @@ part-handed t short′ sparing′ p e =
     (ap (λ (n : ℕ). take n (chosen m (over (sheetOf a) short′) (over (sheetOf b) sparing′))) (sym (part-of a b m)) ∙ part-chosen m (sheetOf a) (sheetOf b) short′ sparing′)
 
 -- its numbers are the plans' own
-pub planned-counts : (t : List ℕ) (j : Job) (a b : ℕ) (p : Planned) → ticketOf t ≡ given j → planAnswer t a b ≡ given p
+pub planned-counts : (t : List ℕ) (stop : ℕ) (j : Job) (a b : ℕ) (p : Planned) → jobUpTo t stop ≡ given j → planAnswer t stop a b ≡ given p
     → (p .short ≡ shortCounts j) × (p .sparing ≡ sparingCounts j) × (p .shortSheet ≡ sheetOf (scheduleOf short j)) × (p .sparingSheet ≡ sheetOf (scheduleOf sparing j))
 unfolding plannedOf shortCounts sparingCounts
-planned-counts t j a b p q e =
-    let w = planned t a b p e in
-    let same = one-job t (w .1) q in
+planned-counts t stop j a b p q e =
+    let w = planned t stop a b p e in
+    let same = one-job t stop (w .1) q in
     subst (λ (x : Planned). (x .short ≡ shortCounts j) × (x .sparing ≡ sparingCounts j) × (x .shortSheet ≡ sheetOf (scheduleOf short j)) × (x .sparingSheet ≡ sheetOf (scheduleOf sparing j)))
     (w .2) (
       ap shortCounts same,
@@ -368,12 +368,12 @@ planned-counts t j a b p q e =
 
 -- the remaining promises, as they are stated
 
-pub rounds-few : (rule : Rule) → Lawful rule → (t : List ℕ) (j : Job) → ticketOf t ≡ given j
+pub rounds-few : (rule : Rule) → Lawful rule → (t : List ℕ) (stop : ℕ) (j : Job) → jobUpTo t stop ≡ given j
     → ((k : ℕ) → k < rounds (scheduleOf rule j) → play j (start j) (take k (scheduleOf rule j)) .next < play j (start j) (take (suc k) (scheduleOf rule j)) .next)
     × (rounds (scheduleOf rule j) ≤ refCount j) × (rounds (scheduleOf rule j) ≤ 2048) × (length (sheetOf (scheduleOf rule j)) ≤ 40962)
-rounds-few rule lawful t j e =
-    (schedule-consumes rule lawful t j e, schedule-few rule lawful t j e, schedule-most rule lawful t j e, schedule-fits rule lawful t j e)
+rounds-few rule lawful t stop j e =
+    (schedule-consumes rule lawful t stop j e, schedule-few rule lawful t stop j e, schedule-most rule lawful t stop j e, schedule-fits rule lawful t stop j e)
 
-pub passes-exactly : (t s : List ℕ) (c : Counts) → (checkAnswer t s ≡ given c)
-    ↔ ((j : Job) × (schedule : Schedule) × (ticketOf t ≡ given j) × ValidSheet j s schedule × (countsOf schedule ≡ c))
-passes-exactly t s c = (passes-valid t s c, λ w. valid-passes t s (w .0) (w .1) (w .2) (w .3) ∙ ap given (w .4))
+pub passes-exactly : (t : List ℕ) (stop : ℕ) (s : List ℕ) (c : Counts) → (checkAnswer t stop s ≡ given c)
+    ↔ ((j : Job) × (schedule : Schedule) × (jobUpTo t stop ≡ given j) × ValidSheet j s schedule × (countsOf schedule ≡ c))
+passes-exactly t stop s c = (passes-valid t stop s c, λ w. valid-passes t stop s (w .0) (w .1) (w .2) (w .3) ∙ ap given (w .4))

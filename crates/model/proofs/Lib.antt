@@ -1,5 +1,6 @@
 pub mod Answers
 pub mod Ticket
+pub mod Stop
 pub mod Counting
 pub mod Playing
 pub mod Buffers
@@ -24,4 +25,5 @@ pub mod TwoSheets
 pub mod Text
 pub mod Page
 pub mod PageCall
+pub mod StopCalls
 pub mod Promises

@@ -109,10 +109,10 @@ unfolding Allowed Each
 allowed-each j few s [] h = tt
 allowed-each j few s (actions ∷ more) h = ((let e = h .0 in omega (arith, e)), allowed-each j few _ more (h .3))
 
-pub passed-length : (t s : List ℕ) (c : Counts) → checkAnswer t s ≡ given c → length s ≤ 40962
+pub passed-length : (t : List ℕ) (stop : ℕ) (s : List ℕ) (c : Counts) → checkAnswer t stop s ≡ given c → length s ≤ 40962
 unfolding sheetBits
-passed-length t s c e =
-    let p = passed t s c e in
+passed-length t stop s c e =
+    let p = passed t stop s c e in
     let r = p .read in
     let schedule = p .schedule in
     let w = ap length (r .wrote) ∙ length-append (sheetBits schedule) (r .tail) in
@@ -122,5 +122,5 @@ passed-length t s c e =
     let l = length-bits s in
     omega (arith, w, a, d, n, l, r .few, r .short)
 
-pub passed-16-bits : (t s : List ℕ) (c : Counts) → checkAnswer t s ≡ given c → length s < 2 ^ 16
-passed-16-bits t s c e = let few = passed-length t s c e in omega (arith, few)
+pub passed-16-bits : (t : List ℕ) (stop : ℕ) (s : List ℕ) (c : Counts) → checkAnswer t stop s ≡ given c → length s < 2 ^ 16
+passed-16-bits t stop s c e = let few = passed-length t stop s c e in omega (arith, few)

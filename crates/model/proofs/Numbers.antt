@@ -1,6 +1,6 @@
 -- Demand 1: a refused call has one of its numbers in documents 01 and 02. Assumes nothing.
 use mathlib.Core.Path.{_≡_, refl, sym, ap, _∙_}
-use mathlib.Core.Logic.{⊎-elim}
+use mathlib.Core.Logic.{_⊎_, inl, inr, ⊎-elim}
 use mathlib.Core.Bool.{Bool, true, false, cond, _&&_}
 use mathlib.Core.List.{List, [], _∷_, _++_}
 use Prim.Native.Nat.{ℕ, zero, suc, _+_, _*_, _≤_}
@@ -18,7 +18,8 @@ use Rattle.model.specs.Playing.{State, Schedule, start}
 use Rattle.model.specs.Rules.{short, sparing}
 use Rattle.model.specs.Plans.{each, scheduleOf}
 use Rattle.model.specs.Sheet.{discardReader, fetchReader, actionReader, roundReader, roundsReader, sheetReader, scheduleRead}
-use Rattle.model.specs.Calls.{Planned, ticketNumbers, sheetNumbers, roomNumbers, checkRefusals, planRefusals, pageRefusals, among, passOf, checkFor, checkAnswer, plannedOf, withRooms, plannedFor, planAnswer, pageAnswer}
+use Rattle.model.specs.Calls.{jobUpTo, Planned, ticketNumbers, jobNumbers, sheetNumbers, roomNumbers, checkRefusals, planRefusals, pageRefusals, among, passOf, checkFor, checkAnswer, plannedOf, withRooms, plannedFor, planAnswer, pageAnswer}
+use Rattle.model.proofs.Stop.{stop-refusals}
 use Rattle.model.proofs.PageCall.{page-refusals}
 
 -- Where a reader stops, its number is one of a list.
@@ -176,17 +177,28 @@ among-within low high n (m ∷ more) w h =
 refused-same : {A B : Type 0} {a b : ℕ} → _≡_ {A = Answer A} (refused a) (refused b) → _≡_ {A = Answer B} (refused a) (refused b)
 refused-same {a = a} {b} e = let same : a ≡ b = cc in ap refused same
 
-pub check-number : (t s : List ℕ) (n : ℕ) → checkAnswer t s ≡ refused n → among n checkRefusals ≡ true
-unfolding checkAnswer checkFor passOf
-check-number t s n e = go (ticketOf t) refl e
-  where
-    sheet : (j : Job) (a : Answer Schedule) → scheduleRead j s ≡ a → passOf a ≡ refused n → among n checkRefusals ≡ true
-    sheet j (given x) q h = refused-given (sym h)
-    sheet j (refused m) q h = among-right n ticketNumbers sheetNumbers (sheet-number j s n (q ∙ refused-same h))
+-- a ticket and a stop
+pub job-number : (t : List ℕ) (k n : ℕ) → jobUpTo t k ≡ refused n → among n jobNumbers ≡ true
+unfolding among each
+job-number t k n e =
+    ⊎-elim (λ h. among-left n ticketNumbers (21 ∷ []) (ticket-number t n h)) (λ h. rw (h .0)) (stop-refusals t k n .0 e)
 
-    go : (a : Answer Job) → ticketOf t ≡ a → checkFor s a ≡ refused n → among n checkRefusals ≡ true
-    go (given j) q h = sheet j (scheduleRead j s) refl h
-    go (refused m) q h = among-left n ticketNumbers sheetNumbers (ticket-number t n (q ∙ refused-same h))
+-- a check's number is one of these, or one of a sheet's,
+pub check-parts : (t : List ℕ) (k : ℕ) (s : List ℕ) (n : ℕ) → checkAnswer t k s ≡ refused n → (jobUpTo t k ≡ refused n) ⊎ (among n sheetNumbers ≡ true)
+unfolding checkAnswer checkFor passOf
+check-parts t k s n e = go (jobUpTo t k) refl e
+  where
+    sheet : (j : Job) (a : Answer Schedule) → scheduleRead j s ≡ a → passOf a ≡ refused n → among n sheetNumbers ≡ true
+    sheet j (given x) q h = refused-given (sym h)
+    sheet j (refused m) q h = sheet-number j s n (q ∙ refused-same h)
+
+    go : (a : Answer Job) → jobUpTo t k ≡ a → checkFor s a ≡ refused n → (jobUpTo t k ≡ refused n) ⊎ (among n sheetNumbers ≡ true)
+    go (given j) q h = inr (sheet j (scheduleRead j s) refl h)
+    go (refused m) q h = inl (q ∙ refused-same h)
+
+pub check-number : (t : List ℕ) (k : ℕ) (s : List ℕ) (n : ℕ) → checkAnswer t k s ≡ refused n → among n checkRefusals ≡ true
+check-number t k s n e =
+    ⊎-elim (λ h. among-left n jobNumbers sheetNumbers (job-number t k n h)) (among-right n jobNumbers sheetNumbers) (check-parts t k s n e)
 
 rooms-number : (a b n : ℕ) (p : Planned) → withRooms a b p ≡ refused n → among n roomNumbers ≡ true
 unfolding withRooms among each
@@ -200,33 +212,38 @@ rooms-number a b n p = first (ltb a (length (p .shortSheet))) (ltb b (length (p 
     first false true e = is refl e
     first false false e = refused-given (sym e)
 
-pub plan-number : (t : List ℕ) (a b n : ℕ) → planAnswer t a b ≡ refused n → among n planRefusals ≡ true
+-- and planning's one of these, or one of the rooms'
+pub plan-parts : (t : List ℕ) (k a b n : ℕ) → planAnswer t k a b ≡ refused n → (jobUpTo t k ≡ refused n) ⊎ (among n roomNumbers ≡ true)
 unfolding planAnswer plannedFor
-plan-number t a b n e = go (ticketOf t) refl e
+plan-parts t k a b n e = go (jobUpTo t k) refl e
   where
-    go : (x : Answer Job) → ticketOf t ≡ x → plannedFor a b x ≡ refused n → among n planRefusals ≡ true
-    go (given j) q h = among-right n ticketNumbers roomNumbers (rooms-number a b n (plannedOf (scheduleOf short j) (scheduleOf sparing j)) h)
-    go (refused m) q h = among-left n ticketNumbers roomNumbers (ticket-number t n (q ∙ refused-same h))
+    go : (x : Answer Job) → jobUpTo t k ≡ x → plannedFor a b x ≡ refused n → (jobUpTo t k ≡ refused n) ⊎ (among n roomNumbers ≡ true)
+    go (given j) q h = inr (rooms-number a b n (plannedOf (scheduleOf short j) (scheduleOf sparing j)) h)
+    go (refused m) q h = inl (q ∙ refused-same h)
+
+pub plan-number : (t : List ℕ) (k a b n : ℕ) → planAnswer t k a b ≡ refused n → among n planRefusals ≡ true
+plan-number t k a b n e =
+    ⊎-elim (λ h. among-left n jobNumbers roomNumbers (job-number t k n h)) (among-right n jobNumbers roomNumbers) (plan-parts t k a b n e)
 
 -- a page's own number comes after those of planning
-pub page-number : (t : List ℕ) (a b c n : ℕ) → pageAnswer t a b c ≡ refused n → among n pageRefusals ≡ true
+pub page-number : (t : List ℕ) (k a b c n : ℕ) → pageAnswer t k a b c ≡ refused n → among n pageRefusals ≡ true
 unfolding among each
-page-number t a b c n e =
-    ⊎-elim (λ h. among-left n planRefusals (19 ∷ []) (plan-number t a b n h)) (λ h. rw (h .0)) (page-refusals t a b c n .0 e)
+page-number t k a b c n e =
+    ⊎-elim (λ h. among-left n planRefusals (19 ∷ []) (plan-number t k a b n h)) (λ h. rw (h .0)) (page-refusals t k a b c n .0 e)
 
 -- so no number of a refused call is 0, and each is small
 pub ticket-within : (t : List ℕ) (n : ℕ) → ticketOf t ≡ refused n → (1 ≤ n) × (n ≤ 8)
 unfolding withinAll each
 ticket-within t n e = among-within 1 8 n ticketNumbers refl (ticket-number t n e)
 
-pub check-within : (t s : List ℕ) (n : ℕ) → checkAnswer t s ≡ refused n → (1 ≤ n) × (n ≤ 20)
+pub check-within : (t : List ℕ) (k : ℕ) (s : List ℕ) (n : ℕ) → checkAnswer t k s ≡ refused n → (1 ≤ n) × (n ≤ 21)
 unfolding withinAll each
-check-within t s n e = among-within 1 20 n checkRefusals refl (check-number t s n e)
+check-within t k s n e = among-within 1 21 n checkRefusals refl (check-number t k s n e)
 
-pub plan-within : (t : List ℕ) (a b n : ℕ) → planAnswer t a b ≡ refused n → (1 ≤ n) × (n ≤ 18)
+pub plan-within : (t : List ℕ) (k a b n : ℕ) → planAnswer t k a b ≡ refused n → (1 ≤ n) × (n ≤ 21)
 unfolding withinAll each
-plan-within t a b n e = among-within 1 18 n planRefusals refl (plan-number t a b n e)
+plan-within t k a b n e = among-within 1 21 n planRefusals refl (plan-number t k a b n e)
 
-pub page-within : (t : List ℕ) (a b c n : ℕ) → pageAnswer t a b c ≡ refused n → (1 ≤ n) × (n ≤ 19)
+pub page-within : (t : List ℕ) (k a b c n : ℕ) → pageAnswer t k a b c ≡ refused n → (1 ≤ n) × (n ≤ 21)
 unfolding withinAll each
-page-within t a b c n e = among-within 1 19 n pageRefusals refl (page-number t a b c n e)
+page-within t k a b c n e = among-within 1 21 n pageRefusals refl (page-number t k a b c n e)

@@ -8,7 +8,7 @@ use lib.ListN.{length, getD, drop, length-drop}
 use lib.Seq.{getD-drop}
 use Rattle.bits.proofs.Logic.{by-test}
 use Rattle.model.specs.Job.{Job, refCount, refAt}
-use Rattle.model.specs.Playing.{Action, State, isResident, actAll, consumed, playRound}
+use Rattle.model.specs.Playing.{Action, Schedule, State, isResident, actAll, consumed, playRound, play}
 use Rattle.model.specs.Valid.{Round}
 
 module _ (marks : List Bool) where
@@ -51,6 +51,12 @@ readOn j marks p = p + consumed marks (drop p (j .refs))
 
 pub readOn-within : (j : Job) (marks : List Bool) (p : ℕ) → p ≤ refCount j → readOn j marks p ≤ refCount j
 readOn-within j marks p h = let a = consumed-most marks (drop p (j .refs)) in let b = length-drop p (j .refs) in omega (arith, a, b)
+
+-- so no schedule consumes a reference that is not there
+pub play-within : (j : Job) (s : State) (schedule : Schedule) → s .next ≤ refCount j → play j s schedule .next ≤ refCount j
+unfolding play playRound
+play-within j s [] h = h
+play-within j s (actions ∷ more) h = play-within j (playRound j s actions) more (readOn-within j (actAll (s .resident) actions) (s .next) h)
 
 pub readOn-held : (j : Job) (marks : List Bool) (p i : ℕ) → p ≤ i → i < readOn j marks p → isResident marks (refAt j i) ≡ true
 readOn-held j marks p i h l =

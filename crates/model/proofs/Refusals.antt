@@ -9,11 +9,12 @@ use lib.Dec.{eqb}
 use borrow.Author.Tests.{eqb-true}
 use Rattle.bits.specs.Reading.{refused, bind, _>>=_, _>>_, give, field, refuseIf, many, isClosed, closing, answer, readAll}
 use Rattle.bits.proofs.Logic.{by-test, clash, getD-same}
+use Rattle.model.specs.Job.{upTo}
 use Rattle.model.specs.Ticket.{slotsField, diskField, refField, ticketReader, ticketOf}
 use Rattle.model.specs.Playing.{noneResident, start, load, play}
 use Rattle.model.specs.Plans.{each}
 use Rattle.model.specs.Sheet.{discardReader, fetchReader, actionReader, roundReader, roundsReader, sheetReader, scheduleRead}
-use Rattle.model.specs.Calls.{noCounts, AllZero, planAnswer, written, shortAfter, sparingAfter, returned, partAfter, pageAnswer, planGiven, pageLength, pageAfter, checkAnswer, countsGiven, chooseAnswer, returnedChoice, sheetAfter, checkRefusals, planRefusals, pageRefusals, among, countsNumbers, planningNumbers, choiceNumbers, countsWritten}
+use Rattle.model.specs.Calls.{stopAt, jobUpTo, noCounts, AllZero, planAnswer, written, shortAfter, sparingAfter, returned, partAfter, pageAnswer, planGiven, pageLength, pageAfter, checkAnswer, countsGiven, chooseAnswer, returnedChoice, sheetAfter, checkRefusals, planRefusals, pageRefusals, among, countsNumbers, planningNumbers, choiceNumbers, countsWritten}
 use Rattle.model.proofs.PageCall.{page-refusals}
 use Rattle.model.proofs.Numbers.{check-number, plan-number, page-number}
 use Rattle.model.proofs.TwoSheets.{first-refused, choose-number}
@@ -40,73 +41,75 @@ all-then f (_⊳_ {n = n} q more) r = f n q ⊳ all-then f more r
 
 -- bytes for which a check is refused with n, and bytes and rooms for which a planning call is, without and with a page
 abbrev pub CheckRefused : ℕ → Type 0
-CheckRefused n = (t : List ℕ) × (s : List ℕ) × (checkAnswer t s ≡ refused n)
+CheckRefused n = (t : List ℕ) × (stop : ℕ) × (s : List ℕ) × (checkAnswer t stop s ≡ refused n)
 
 abbrev pub PlanRefused : ℕ → Type 0
-PlanRefused n = (t : List ℕ) × (room₁ : ℕ) × (room₂ : ℕ) × (planAnswer t room₁ room₂ ≡ refused n)
+PlanRefused n = (t : List ℕ) × (stop : ℕ) × (room₁ : ℕ) × (room₂ : ℕ) × (planAnswer t stop room₁ room₂ ≡ refused n)
 
 abbrev pub PageRefused : ℕ → Type 0
-PageRefused n = (t : List ℕ) × (room₁ : ℕ) × (room₂ : ℕ) × (room₃ : ℕ) × (pageAnswer t room₁ room₂ room₃ ≡ refused n)
+PageRefused n = (t : List ℕ) × (stop : ℕ) × (room₁ : ℕ) × (room₂ : ℕ) × (room₃ : ℕ) × (pageAnswer t stop room₁ room₂ room₃ ≡ refused n)
 
 checks : All CheckRefused checkRefusals
-unfolding each hex checkAnswer _>>=_ _>>_ bind give field refuseIf many isClosed closing answer readAll slotsField diskField refField ticketReader ticketOf discardReader fetchReader actionReader roundReader roundsReader sheetReader scheduleRead play load noneResident start
+unfolding each hex checkAnswer _>>=_ _>>_ bind give field refuseIf many isClosed closing answer readAll stopAt upTo jobUpTo slotsField diskField refField ticketReader ticketOf discardReader fetchReader actionReader roundReader roundsReader sheetReader scheduleRead play load noneResident start
 checks =
-    ([], [], refl) ⊳
-    (hex 1 0x00, [], refl) ⊳
-    (hex 2 0x1000, [], refl) ⊳
-    (hex 3 0x102000, [], refl) ⊳
-    (hex 3 0x102009, [], refl) ⊳
-    (hex 5 0x1020088010, [], refl) ⊳
-    (hex 6 0x102008002008, [], refl) ⊳
-    (hex 6 0x102008001001, [], refl) ⊳
-    (hex 6 0x102008001000, [], refl) ⊳
-    (hex 6 0x102008001000, hex 2 0x8010, refl) ⊳
-    (hex 6 0x102008001000, hex 3 0x001816, refl) ⊳
-    (hex 6 0x102008001000, hex 5 0x0028010000, refl) ⊳
-    (hex 9 0x102010000600008000, hex 5 0x0038010080, refl) ⊳
-    (hex 9 0x102010000600008000, hex 6 0x00280100c020, refl) ⊳
-    (hex 6 0x102008001000, hex 2 0x0000, refl) ⊳
-    (hex 6 0x102008001000, hex 3 0x001801, refl) ⊳
-    (hex 6 0x102008001000, hex 4 0x00180200, refl) ⊳
+    ([], 0, [], refl) ⊳
+    (hex 1 0x00, 0, [], refl) ⊳
+    (hex 2 0x1000, 0, [], refl) ⊳
+    (hex 3 0x102000, 0, [], refl) ⊳
+    (hex 3 0x102009, 0, [], refl) ⊳
+    (hex 5 0x1020088010, 0, [], refl) ⊳
+    (hex 6 0x102008002008, 0, [], refl) ⊳
+    (hex 6 0x102008001001, 0, [], refl) ⊳
+    (hex 6 0x102008001000, 2, [], refl) ⊳
+    (hex 6 0x102008001000, 1, [], refl) ⊳
+    (hex 6 0x102008001000, 1, hex 2 0x8010, refl) ⊳
+    (hex 6 0x102008001000, 1, hex 3 0x001816, refl) ⊳
+    (hex 6 0x102008001000, 1, hex 5 0x0028010000, refl) ⊳
+    (hex 9 0x102010000600008000, 3, hex 5 0x0038010080, refl) ⊳
+    (hex 9 0x102010000600008000, 3, hex 6 0x00280100c020, refl) ⊳
+    (hex 6 0x102008001000, 1, hex 2 0x0000, refl) ⊳
+    (hex 6 0x102008001000, 1, hex 3 0x001801, refl) ⊳
+    (hex 6 0x102008001000, 1, hex 4 0x00180200, refl) ⊳
     end
 
 plans : All PlanRefused planRefusals
-unfolding each hex planAnswer _>>=_ _>>_ bind give field refuseIf many isClosed closing answer readAll slotsField diskField refField ticketReader ticketOf load noneResident
+unfolding each hex planAnswer _>>=_ _>>_ bind give field refuseIf many isClosed closing answer readAll stopAt upTo jobUpTo slotsField diskField refField ticketReader ticketOf load noneResident
 plans =
-    ([], 0, 0, refl) ⊳
-    (hex 1 0x00, 0, 0, refl) ⊳
-    (hex 2 0x1000, 0, 0, refl) ⊳
-    (hex 3 0x102000, 0, 0, refl) ⊳
-    (hex 3 0x102009, 0, 0, refl) ⊳
-    (hex 5 0x1020088010, 0, 0, refl) ⊳
-    (hex 6 0x102008002008, 0, 0, refl) ⊳
-    (hex 6 0x102008001001, 0, 0, refl) ⊳
-    (hex 6 0x102008001000, 2, 2, refl) ⊳
-    (hex 6 0x102008001000, 3, 2, refl) ⊳
+    ([], 0, 0, 0, refl) ⊳
+    (hex 1 0x00, 0, 0, 0, refl) ⊳
+    (hex 2 0x1000, 0, 0, 0, refl) ⊳
+    (hex 3 0x102000, 0, 0, 0, refl) ⊳
+    (hex 3 0x102009, 0, 0, 0, refl) ⊳
+    (hex 5 0x1020088010, 0, 0, 0, refl) ⊳
+    (hex 6 0x102008002008, 0, 0, 0, refl) ⊳
+    (hex 6 0x102008001001, 0, 0, 0, refl) ⊳
+    (hex 6 0x102008001000, 2, 0, 0, refl) ⊳
+    (hex 6 0x102008001000, 1, 2, 2, refl) ⊳
+    (hex 6 0x102008001000, 1, 3, 2, refl) ⊳
     end
 
 -- where planning is refused, whatever the page's room; and A's page of 102 bytes in 101
 pages : All PageRefused pageRefusals
-unfolding hex pageAnswer _>>=_ _>>_ bind give field refuseIf many isClosed closing answer readAll slotsField diskField refField ticketReader ticketOf load noneResident
+unfolding hex pageAnswer _>>=_ _>>_ bind give field refuseIf many isClosed closing answer readAll stopAt upTo jobUpTo slotsField diskField refField ticketReader ticketOf load noneResident
 pages =
-    all-then (λ n w. (w .0, w .1, w .2, 0, page-refusals (w .0) (w .1) (w .2) 0 n .1 (inl (w .3)))) plans
-    ((hex 6 0x102008001000, 3, 3, 101, refl) ⊳ end)
+    all-then (λ n w. (w .0, w .1, w .2, w .3, 0, page-refusals (w .0) (w .1) (w .2) (w .3) 0 n .1 (inl (w .4)))) plans
+    ((hex 6 0x102008001000, 1, 3, 3, 101, refl) ⊳ end)
 
 -- both sheets of a choice may be the sheet for which the check is refused
-pub choose-numbers : (n : ℕ) → (among n checkRefusals ≡ true) ↔ ((t : List ℕ) × (first : List ℕ) × (second : List ℕ) × (chooseAnswer t first second ≡ refused n))
+pub choose-numbers : (n : ℕ) → (among n checkRefusals ≡ true) ↔ ((t : List ℕ) × (stop : ℕ) × (first : List ℕ) × (second : List ℕ) × (chooseAnswer t stop first second ≡ refused n))
 choose-numbers n = (
-  λ h. (let w = all-among checks n h in (w .0, w .1, w .1, first-refused (w .0) (w .1) (w .1) n (w .2))),
-  λ w. choose-number (w .0) (w .1) (w .2) n (w .3),
+  λ h. (let w = all-among checks n h in (w .0, w .1, w .2, w .2, first-refused (w .0) (w .1) (w .2) (w .2) n (w .3))),
+  λ w. choose-number (w .0) (w .1) (w .2) (w .3) n (w .4),
 )
 
 pub check-numbers : (n : ℕ) → (among n checkRefusals ≡ true) ↔ CheckRefused n
-check-numbers n = (all-among checks n, λ w. check-number (w .0) (w .1) n (w .2))
+check-numbers n = (all-among checks n, λ w. check-number (w .0) (w .1) (w .2) n (w .3))
 
 pub plan-numbers : (n : ℕ) → (among n planRefusals ≡ true) ↔ PlanRefused n
-plan-numbers n = (all-among plans n, λ w. plan-number (w .0) (w .1) (w .2) n (w .3))
+plan-numbers n = (all-among plans n, λ w. plan-number (w .0) (w .1) (w .2) (w .3) n (w .4))
 
 pub page-numbers : (n : ℕ) → (among n pageRefusals ≡ true) ↔ PageRefused n
-page-numbers n = (all-among pages n, λ w. page-number (w .0) (w .1) (w .2) (w .3) n (w .4))
+page-numbers n = (all-among pages n, λ w. page-number (w .0) (w .1) (w .2) (w .3) (w .4) n (w .5))
 
 -- "all counts 0"
 

@@ -147,6 +147,10 @@ pub valid-accepted : (t : List ℕ) (j : Job) → ValidTicket t j → ticketOf t
 unfolding ticketOf
 valid-accepted t j v = readAll-ok ticketReader t (ap ticketReader (v .written) ∙ ticket-written j (v .sound) (v .closingBits) (v .fewClosing))
 
+-- its job is sound
+pub ticket-sound : (t : List ℕ) (j : Job) → ticketOf t ≡ given j → Sound j
+ticket-sound t j e = accepted-valid t j e .sound
+
 -- a sound job's own ticket
 
 ticket-bits : (j : Job) → Bits (ticketBits j)

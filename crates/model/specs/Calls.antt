@@ -1,6 +1,7 @@
 -- What planning, checking and choosing give: document 01, "The two plans", its last three paragraphs, and "Numbers of a refused call"; of document 02
--- the requests L1, "Choosing between sheets we already hold", and L2, "A wall page of the run". `planAnswer`, `pageAnswer`, `checkAnswer` and
--- `chooseAnswer` are the calls; `crates/planner/src/lib.rt` has the functions whose contracts are equations with them. Assumes nothing.
+-- the requests L1, "Choosing between sheets we already hold", L2, "A wall page of the run", and L5, "Plan up to a stop". `planAnswer`, `pageAnswer`,
+-- `checkAnswer` and `chooseAnswer` are the calls; `crates/planner/src/lib.rt` has the functions whose contracts are equations with them. Assumes
+-- nothing.
 use mathlib.Core.Path.{_≡_}
 use mathlib.Core.Bool.{Bool, false, cond, _||_}
 use mathlib.Core.List.{List, [], _∷_, _++_}
@@ -10,13 +11,29 @@ use lib.Dec.{ltb, leb, eqb}
 use lib.ListN.{length, getD, replicate, take}
 use Rattle.bits.specs.Bits.{be16, over, laid}
 use Rattle.bits.specs.Reading.{Answer, given, refused}
-use Rattle.model.specs.Job.{Job}
+use Rattle.model.specs.Job.{Job, refCount, upTo}
 use Rattle.model.specs.Ticket.{ticketOf}
 use Rattle.model.specs.Playing.{Schedule, rounds, fetches}
 use Rattle.model.specs.Rules.{Choice, short, sparing}
 use Rattle.model.specs.Plans.{each, planOf, scheduleOf}
 use Rattle.model.specs.Page.{pageOf}
 use Rattle.model.specs.Sheet.{sheetOf, scheduleRead}
+
+-- What a call is for: the job of a ticket up to a stop, or the number with which one of the two is refused. L5: "Turned away: 21, the stop is above N,
+-- tested after 8", and so before anything of a sheet or a room. What each call gives is what document 01 and the requests before L5 say, of that job.
+unfoldable pub stopAt : ℕ → Answer Job → Answer Job
+unfolding upTo
+stopAt stop (given j) = cond (ltb (refCount j) stop) (refused 21) (given (upTo stop j))
+stopAt stop (refused n) = refused n
+
+unfoldable pub jobUpTo : List ℕ → ℕ → Answer Job
+unfolding stopAt ticketOf
+jobUpTo ticket stop = stopAt stop (ticketOf ticket)
+
+-- N, of a ticket that was read: the stop of the programs ("the program's is N"). A ticket that is refused has none, and its number with every stop.
+abbrev pub referencesOf : Answer Job → ℕ
+referencesOf (given j) = refCount j
+referencesOf (refused n) = 0
 
 -- "the rounds and the fetches per disk, 0 for disks the job has not": eight fetch counts
 pub record Counts : Type 0 where
@@ -119,10 +136,10 @@ unfolding withRooms plannedOf scheduleOf short sparing
 plannedFor room₁ room₂ (given j) = withRooms room₁ room₂ (plannedOf (scheduleOf short j) (scheduleOf sparing j))
 plannedFor room₁ room₂ (refused n) = refused n
 
--- A planning call: a ticket, and the lengths of the two lent buffers.
-unfoldable pub planAnswer : List ℕ → ℕ → ℕ → Answer Planned
-unfolding plannedFor ticketOf
-planAnswer ticket room₁ room₂ = plannedFor room₁ room₂ (ticketOf ticket)
+-- A planning call: a ticket, a stop, and the lengths of the two lent buffers.
+unfoldable pub planAnswer : List ℕ → ℕ → ℕ → ℕ → Answer Planned
+unfolding plannedFor jobUpTo
+planAnswer ticket stop room₁ room₂ = plannedFor room₁ room₂ (jobUpTo ticket stop)
 
 -- A lent buffer after the call. "A refused call .. changes no lent byte." "Bytes past a written sheet do not change."
 unfoldable pub written : {A : Type 0} → (A → List ℕ) → Answer A → List ℕ → List ℕ
@@ -184,11 +201,11 @@ unfolding withPage plannedFor
 pageFor room₁ room₂ room₃ (given j) = withPage room₃ j (plannedFor room₁ room₂ (given j))
 pageFor room₁ room₂ room₃ (refused n) = refused n
 
--- A planning call with a page: a ticket, and the lengths of the three lent buffers. L2: "The page comes from a planning call that is lent a third
--- buffer for it and writes both sheets as before."
-unfoldable pub pageAnswer : List ℕ → ℕ → ℕ → ℕ → Answer PlannedPage
-unfolding pageFor ticketOf
-pageAnswer ticket room₁ room₂ room₃ = pageFor room₁ room₂ room₃ (ticketOf ticket)
+-- A planning call with a page: a ticket, a stop, and the lengths of the three lent buffers. L2: "The page comes from a planning call that is lent a
+-- third buffer for it and writes both sheets as before."
+unfoldable pub pageAnswer : List ℕ → ℕ → ℕ → ℕ → ℕ → Answer PlannedPage
+unfolding pageFor jobUpTo
+pageAnswer ticket stop room₁ room₂ room₃ = pageFor room₁ room₂ room₃ (jobUpTo ticket stop)
 
 -- What planning alone gives of it: `returned`, `shortAfter`, `sparingAfter` and `partAfter` are then as above.
 unfoldable pub planGiven : Answer PlannedPage → Answer Planned
@@ -214,10 +231,10 @@ unfolding passOf scheduleRead
 checkFor sheet (given j) = passOf (scheduleRead j sheet)
 checkFor sheet (refused n) = refused n
 
--- A call of the check: a ticket and a sheet. "The ticket is read first, field by field, then the sheet likewise."
-unfoldable pub checkAnswer : List ℕ → List ℕ → Answer Counts
-unfolding checkFor ticketOf
-checkAnswer ticket sheet = checkFor sheet (ticketOf ticket)
+-- A call of the check: a ticket, a stop and a sheet. "The ticket is read first, field by field, then the sheet likewise."
+unfoldable pub checkAnswer : List ℕ → ℕ → List ℕ → Answer Counts
+unfolding checkFor jobUpTo
+checkAnswer ticket stop sheet = checkFor sheet (jobUpTo ticket stop)
 
 -- The counts that the check returns: "A refused call returns its number with all counts 0".
 abbrev pub countsGiven : Answer Counts → Counts
@@ -242,10 +259,10 @@ chosenFrom first second (refused n) checked = refused n
 chosenFrom first second (given a) (refused n) = refused n
 chosenFrom first second (given a) (given b) = given (chosenOf first second a b)
 
--- A call of the choice: "a call of its own on a ticket and two sheets".
-unfoldable pub chooseAnswer : List ℕ → List ℕ → List ℕ → Answer ChosenSheet
+-- A call of the choice: "a call of its own on a ticket and two sheets", and a stop.
+unfoldable pub chooseAnswer : List ℕ → ℕ → List ℕ → List ℕ → Answer ChosenSheet
 unfolding chosenFrom checkAnswer
-chooseAnswer ticket first second = chosenFrom first second (checkAnswer ticket first) (checkAnswer ticket second)
+chooseAnswer ticket stop first second = chosenFrom first second (checkAnswer ticket stop first) (checkAnswer ticket stop second)
 
 -- What the call returns. A refusal hands back no sheet.
 pub record ReturnedChoice : Type 0 where
@@ -269,9 +286,13 @@ sheetAfter a first second =
     let r = returnedChoice a in
     sheetHanded (r .which) (r .sheetLength) first second
 
--- The numbers of "Numbers of a refused call": those of a ticket, of a sheet and of the rooms;
+-- The numbers of "Numbers of a refused call": those of a ticket, of a ticket and a stop, of a sheet and of the rooms;
 abbrev pub ticketNumbers : List ℕ
 ticketNumbers = each (λ n. n) 1 8
+
+-- (L5: "Turned away: 21")
+abbrev pub jobNumbers : List ℕ
+jobNumbers = ticketNumbers ++ 21 ∷ []
 
 -- (L3: "Turned away: 20")
 abbrev pub sheetNumbers : List ℕ
@@ -282,10 +303,10 @@ roomNumbers = 17 ∷ 18 ∷ []
 
 -- and with which of them a check and a choice, and a planning call, are refused
 abbrev pub checkRefusals : List ℕ
-checkRefusals = ticketNumbers ++ sheetNumbers
+checkRefusals = jobNumbers ++ sheetNumbers
 
 abbrev pub planRefusals : List ℕ
-planRefusals = ticketNumbers ++ roomNumbers
+planRefusals = jobNumbers ++ roomNumbers
 
 -- L2: "Turned away: 19"
 abbrev pub pageRefusals : List ℕ

@@ -1,9 +1,10 @@
 -- What a ticket says. Document 01, "What the work covers": "Blocks are only read, each lies on one unit (disk)", and the table of
--- "Ticket and sheet": disks D, buffer slots of each disk, blocks B, the disk of each block, references N, each reference.
+-- "Ticket and sheet": disks D, buffer slots of each disk, blocks B, the disk of each block, references N, each reference. Document 02, L5: the job up to
+-- a stop.
 -- Disks, blocks and positions in the reference string are numbers from 0. Assumes nothing.
 use mathlib.Core.List.{List}
 use Prim.Native.Nat.{ℕ, _≤_, _<_}
-use lib.ListN.{length, getD}
+use lib.ListN.{length, getD, take}
 
 pub record Job : Type 0 where
   -- "buffer slots, one field per disk": of disk 0, disk 1, ..
@@ -32,6 +33,10 @@ diskOf j b = getD (j .blockDisks) b 0
 
 abbrev pub refAt : Job → ℕ → ℕ
 refAt j i = getD (j .refs) i 0
+
+-- The job up to a stop. L5: "Planning, page, check and choice take a stop .. : the number of references that count; none at or past it is consumed."
+unfoldable pub upTo : ℕ → Job → Job
+upTo stop j = record { slots = j .slots; blockDisks = j .blockDisks; refs = take stop (j .refs) }
 
 -- The values that the table allows. `Promises` proves that the sound jobs are those of the accepted tickets.
 pub record Sound (j : Job) : Type 0 where

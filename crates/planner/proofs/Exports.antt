@@ -2,8 +2,7 @@
 use mathlib.Core.Path.{_≡_, refl, sym, ap, _∙_}
 use mathlib.Core.List.{List, _∷_}
 use mathlib.Core.Option.{some}
-use Prim.Native.Nat.{ℕ, _≤_}
-use native.Mathlib.Omega.{arith}
+use Prim.Native.Nat.{ℕ}
 use lib.ListN.{getD}
 use mir.Val.{Fits as Machine}
 use mir.Syntax.{w32}
@@ -47,21 +46,21 @@ module _ {A : Type 0} (numbers : A → List ℕ) (a : Answer A) (number : ℕ) (
 
 -- The check.
 
-module _ (t s : List ℕ) (r : Checked) (e : r ≡ checkedOf (checkAnswer t s)) where
+module _ (t : List ℕ) (stop : ℕ) (s : List ℕ) (r : Checked) (e : r ≡ checkedOf (checkAnswer t stop s)) where
   pub check-small : Machine w32 (r .number)
-  check-small = number-small (checkAnswer t s) (check-within t s) (r .number) (check-is t s r e)
+  check-small = number-small (checkAnswer t stop s) (check-within t stop s) (r .number) (check-is t stop s r e)
 
-  pub check-stopped : (lent : List ℕ) → (r .number ≡ 0 → ⊥) → (r .number ≡ numberOf (checkAnswer t s)) × (lent ≡ countsWritten countsNumbers (checkAnswer t s) lent)
-  check-stopped = stopped countsNumbers (checkAnswer t s) (r .number) (check-is t s r e)
+  pub check-stopped : (lent : List ℕ) → (r .number ≡ 0 → ⊥) → (r .number ≡ numberOf (checkAnswer t stop s)) × (lent ≡ countsWritten countsNumbers (checkAnswer t stop s) lent)
+  check-stopped = stopped countsNumbers (checkAnswer t stop s) (r .number) (check-is t stop s r e)
 
   pub check-passed : (lent lent′ : List ℕ) → r .number ≡ 0 → lent′ ≡ laidAt 0 (halves (numbersOf (r .rounds) (r .fetches))) lent
-      → (0 ≡ numberOf (checkAnswer t s)) × (lent′ ≡ countsWritten countsNumbers (checkAnswer t s) lent)
+      → (0 ≡ numberOf (checkAnswer t stop s)) × (lent′ ≡ countsWritten countsNumbers (checkAnswer t stop s) lent)
   unfolding checkedOf
   check-passed lent lent′ z w =
-      let p = check-passing t s r e z in
-      let v = Bytes.passes-valid t s (p .0) (p .1) in
+      let p = check-passing t stop s r e z in
+      let v = Bytes.passes-valid t stop s (p .0) (p .1) in
       let same = e ∙ ap checkedOf (p .1 ∙ ap given (sym (v .4))) in
-      wrote countsNumbers (checkAnswer t s) (r .number) (check-is t s r e) lent lent′ (p .0) (p .1) z
+      wrote countsNumbers (checkAnswer t stop s) (r .number) (check-is t stop s r e) lent lent′ (p .0) (p .1) z
       (w ∙ ap (λ (l : List ℕ). laidAt 0 (halves l) lent) (ap (λ (x : Checked). numbersOf (x .rounds) (x .fetches)) same ∙ same-numbers (v .1) ∙ ap countsNumbers (v .4)))
 
 -- Planning.
@@ -84,33 +83,30 @@ twenty-planned a b lent =
     ap (λ (m : ℕ). laidAt 22 (halves (countsNumbers (countsOf b))) (laidAt 4 (halves (countsNumbers (countsOf a))) (laidAt 2 (be16 (p .partLength)) (laidAt 0 (be16 m) lent)))) (mark-is (p .mark))
     ∙ laid-twenty (chosen (p .mark) 0 1) (p .partLength) (countsNumbers (countsOf a)) (countsNumbers (countsOf b)) lent refl
 
-module _ (t : List ℕ) (a b : ℕ) (r : Planned) (e : r ≡ plannedAs (returned (planAnswer t a b))) where
-  plan-is : r .number ≡ numberOf (planAnswer t a b)
+module _ (t : List ℕ) (stop a b : ℕ) (r : Planned) (e : r ≡ plannedAs (returned (planAnswer t stop a b))) where
+  plan-is : r .number ≡ numberOf (planAnswer t stop a b)
   unfolding plannedAs returned
-  plan-is = ap (λ (x : Planned). x .number) e ∙ go (planAnswer t a b)
+  plan-is = ap (λ (x : Planned). x .number) e ∙ go (planAnswer t stop a b)
     where
       go : (x : Answer PlanGiven) → plannedAs (returned x) .number ≡ numberOf x
       go (given p) = refl
       go (refused n) = refl
 
-  few : (n : ℕ) → planAnswer t a b ≡ refused n → (1 ≤ n) × (n ≤ 20)
-  few n q = let w = plan-within t a b n q in (w .0, omega (arith, w .1))
-
   pub plan-small : Machine w32 (r .number)
-  plan-small = number-small (planAnswer t a b) few (r .number) plan-is
+  plan-small = number-small (planAnswer t stop a b) (plan-within t stop a b) (r .number) plan-is
 
-  pub plan-stopped : (lent : List ℕ) → (r .number ≡ 0 → ⊥) → (r .number ≡ numberOf (planAnswer t a b)) × (lent ≡ countsWritten planningNumbers (planAnswer t a b) lent)
-  plan-stopped = stopped planningNumbers (planAnswer t a b) (r .number) plan-is
+  pub plan-stopped : (lent : List ℕ) → (r .number ≡ 0 → ⊥) → (r .number ≡ numberOf (planAnswer t stop a b)) × (lent ≡ countsWritten planningNumbers (planAnswer t stop a b) lent)
+  plan-stopped = stopped planningNumbers (planAnswer t stop a b) (r .number) plan-is
 
   pub plan-passed : (lent l₁ l₂ l₃ l₄ : List ℕ) (m : ℕ) → r .number ≡ 0 → m ≡ markNumber (r .mark) → l₁ ≡ laidAt 0 (be16 m) lent → l₂ ≡ laidAt 2 (be16 (r .length)) l₁
       → l₃ ≡ laidAt 4 (halves (numbersOf (r .short .rounds) (r .short .fetches))) l₂ → l₄ ≡ laidAt 22 (halves (numbersOf (r .sparing .rounds) (r .sparing .fetches))) l₃
-      → (0 ≡ numberOf (planAnswer t a b)) × (l₄ ≡ countsWritten planningNumbers (planAnswer t a b) lent)
+      → (0 ≡ numberOf (planAnswer t stop a b)) × (l₄ ≡ countsWritten planningNumbers (planAnswer t stop a b) lent)
   plan-passed lent l₁ l₂ l₃ l₄ m z k f g h w =
-      let p = given-by (planAnswer t a b) few (r .number) plan-is z in
-      let q = Bytes.planned t a b (p .0) (p .1) in
+      let p = given-by (planAnswer t stop a b) (plan-within t stop a b) (r .number) plan-is z in
+      let q = Bytes.planned t stop a b (p .0) (p .1) in
       let same = e ∙ ap (λ (x : Answer PlanGiven). plannedAs (returned x)) (p .1 ∙ ap given (sym (q .2))) in
       let twenty : l₄ ≡ twentyLaid (markNumber (r .mark)) r lent = rw (w, h, g, f, k) refl in
-      wrote planningNumbers (planAnswer t a b) (r .number) plan-is lent l₄ (p .0) (p .1) z
+      wrote planningNumbers (planAnswer t stop a b) (r .number) plan-is lent l₄ (p .0) (p .1) z
       (twenty
       ∙ ap (λ (v : Planned). twentyLaid (markNumber (v .mark)) v lent) same
       ∙ twenty-planned _ _ lent
@@ -118,31 +114,31 @@ module _ (t : List ℕ) (a b : ℕ) (r : Planned) (e : r ≡ plannedAs (returned
 
 -- The choice.
 
-module _ (t first second : List ℕ) (r : Chosen) (e : r ≡ chosenAs (returnedChoice (chooseAnswer t first second))) where
-  choice-is : r .number ≡ numberOf (chooseAnswer t first second)
+module _ (t : List ℕ) (stop : ℕ) (first second : List ℕ) (r : Chosen) (e : r ≡ chosenAs (returnedChoice (chooseAnswer t stop first second))) where
+  choice-is : r .number ≡ numberOf (chooseAnswer t stop first second)
   unfolding chosenAs returnedChoice
-  choice-is = ap (λ (x : Chosen). x .number) e ∙ go (chooseAnswer t first second)
+  choice-is = ap (λ (x : Chosen). x .number) e ∙ go (chooseAnswer t stop first second)
     where
       go : (x : Answer ChosenSheet) → chosenAs (returnedChoice x) .number ≡ numberOf x
       go (given c) = refl
       go (refused n) = refl
 
   pub choice-small : Machine w32 (r .number)
-  choice-small = number-small (chooseAnswer t first second) (choose-within t first second) (r .number) choice-is
+  choice-small = number-small (chooseAnswer t stop first second) (choose-within t stop first second) (r .number) choice-is
 
   pub choice-stopped : (lent : List ℕ) → (r .number ≡ 0 → ⊥)
-      → (r .number ≡ numberOf (chooseAnswer t first second)) × (lent ≡ countsWritten choiceNumbers (chooseAnswer t first second) lent)
-  choice-stopped = stopped choiceNumbers (chooseAnswer t first second) (r .number) choice-is
+      → (r .number ≡ numberOf (chooseAnswer t stop first second)) × (lent ≡ countsWritten choiceNumbers (chooseAnswer t stop first second) lent)
+  choice-stopped = stopped choiceNumbers (chooseAnswer t stop first second) (r .number) choice-is
 
   pub choice-passed : (lent l₁ l₂ : List ℕ) (m : ℕ) → r .number ≡ 0 → m ≡ ofWhich (r .which) 0 1 → l₁ ≡ laidAt 0 (be16 m) lent → l₂ ≡ laidAt 2 (be16 (r .length)) l₁
-      → (0 ≡ numberOf (chooseAnswer t first second)) × (l₂ ≡ countsWritten choiceNumbers (chooseAnswer t first second) lent)
+      → (0 ≡ numberOf (chooseAnswer t stop first second)) × (l₂ ≡ countsWritten choiceNumbers (chooseAnswer t stop first second) lent)
   unfolding chosenAs returnedChoice
   choice-passed lent l₁ l₂ m z k f g =
-      let p = given-by (chooseAnswer t first second) (choose-within t first second) (r .number) choice-is z in
+      let p = given-by (chooseAnswer t stop first second) (choose-within t stop first second) (r .number) choice-is z in
       let c = p .0 in
       let same = e ∙ ap (λ (x : Answer ChosenSheet). chosenAs (returnedChoice x)) (p .1) in
       let two : l₂ ≡ laidAt 2 (be16 (r .length)) (laidAt 0 (be16 (ofWhich (r .which) 0 1)) lent) = rw (g, f, k) refl in
-      wrote choiceNumbers (chooseAnswer t first second) (r .number) choice-is lent l₂ c (p .1) z
+      wrote choiceNumbers (chooseAnswer t stop first second) (r .number) choice-is lent l₂ c (p .1) z
       (two
       ∙ ap (λ (v : Chosen). laidAt 2 (be16 (v .length)) (laidAt 0 (be16 (ofWhich (v .which) 0 1)) lent)) same
       ∙ ap (λ (n : ℕ). laidAt 2 (be16 (c .sheetLength)) (laidAt 0 (be16 n) lent)) (two-chosen (c .which) 0 1)

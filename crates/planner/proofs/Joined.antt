@@ -25,26 +25,26 @@ unfolding plannedAs partAfter
 same-part a short sparing = refl
 
 -- After a planning call that is not refused it is the sheet handed back, byte for byte;
-pub part-given : (t short sparing : List ℕ) (p : PlanGiven) → planInto t short sparing ≡ given p → partOfCall (planInto t short sparing) short sparing ≡ handed p
-part-given t short sparing p e = ap (λ (a : Answer PlanGiven). partOfCall a short sparing) e ∙ same-part (given p) short sparing ∙ part-handed t short sparing p e
+pub part-given : (t : List ℕ) (stop : ℕ) (short sparing : List ℕ) (p : PlanGiven) → planInto t stop short sparing ≡ given p → partOfCall (planInto t stop short sparing) short sparing ≡ handed p
+part-given t stop short sparing p e = ap (λ (a : Answer PlanGiven). partOfCall a short sparing) e ∙ same-part (given p) short sparing ∙ part-handed t stop short sparing p e
 
 -- after a refusal it is empty.
-pub part-refused : (t short sparing : List ℕ) (n : ℕ) → planInto t short sparing ≡ refused n → partOfCall (planInto t short sparing) short sparing ≡ []
-part-refused t short sparing n e = ap (λ (a : Answer PlanGiven). partOfCall a short sparing) e ∙ same-part (refused n) short sparing ∙ plan-refused n short sparing .1
+pub part-refused : (t : List ℕ) (stop : ℕ) (short sparing : List ℕ) (n : ℕ) → planInto t stop short sparing ≡ refused n → partOfCall (planInto t stop short sparing) short sparing ≡ []
+part-refused t stop short sparing n e = ap (λ (a : Answer PlanGiven). partOfCall a short sparing) e ∙ same-part (refused n) short sparing ∙ plan-refused n short sparing .1
 
 -- After planning with a page it is the same.
-pub page-part-given : (t short sparing page : List ℕ) (p : PageGiven) → pageInto t short sparing page ≡ given p
-    → partOfCall (planGiven (pageInto t short sparing page)) short sparing ≡ handed (p .planned)
+pub page-part-given : (t : List ℕ) (stop : ℕ) (short sparing page : List ℕ) (p : PageGiven) → pageInto t stop short sparing page ≡ given p
+    → partOfCall (planGiven (pageInto t stop short sparing page)) short sparing ≡ handed (p .planned)
 unfolding planGiven
-page-part-given t short sparing page p e =
-    let planned = page-exactly t (length short) (length sparing) (length page) p .0 e .2 in
+page-part-given t stop short sparing page p e =
+    let planned = page-exactly t stop (length short) (length sparing) (length page) p .0 e .2 in
     ap (λ (a : Answer PageGiven). partOfCall (planGiven a) short sparing) e
-    ∙ ap (λ (a : Answer PlanGiven). partOfCall a short sparing) (sym planned) ∙ part-given t short sparing (p .planned) planned
+    ∙ ap (λ (a : Answer PlanGiven). partOfCall a short sparing) (sym planned) ∙ part-given t stop short sparing (p .planned) planned
 
-pub page-part-refused : (t short sparing page : List ℕ) (n : ℕ) → pageInto t short sparing page ≡ refused n
-    → partOfCall (planGiven (pageInto t short sparing page)) short sparing ≡ []
+pub page-part-refused : (t : List ℕ) (stop : ℕ) (short sparing page : List ℕ) (n : ℕ) → pageInto t stop short sparing page ≡ refused n
+    → partOfCall (planGiven (pageInto t stop short sparing page)) short sparing ≡ []
 unfolding planGiven
-page-part-refused t short sparing page n e =
+page-part-refused t stop short sparing page n e =
     ap (λ (a : Answer PageGiven). partOfCall (planGiven a) short sparing) e ∙ same-part (refused n) short sparing ∙ plan-refused n short sparing .1
 
 -- by the contracts of both: what `chosen_sheet` gives after a choice that gave `a`
@@ -63,10 +63,10 @@ unfolding chosenAs sheetAfter
 same-sheet a first second = let r = returnedChoice a in ap (λ (w : Option WhichGiven). sheetHanded w (r .sheetLength) first second) (same-which (r .which))
 
 -- After a choice that is not refused it is the sheet handed back, byte for byte;
-pub sheet-given : (t first second : List ℕ) (c : ChosenSheet) → chooseAnswer t first second ≡ given c
-    → sheetOfCall (chooseAnswer t first second) first second ≡ ofTwo (c .which) first second
-sheet-given t first second c e = ap (λ (a : Answer ChosenSheet). sheetOfCall a first second) e ∙ same-sheet (given c) first second ∙ sheet-handed t first second c e
+pub sheet-given : (t : List ℕ) (stop : ℕ) (first second : List ℕ) (c : ChosenSheet) → chooseAnswer t stop first second ≡ given c
+    → sheetOfCall (chooseAnswer t stop first second) first second ≡ ofTwo (c .which) first second
+sheet-given t stop first second c e = ap (λ (a : Answer ChosenSheet). sheetOfCall a first second) e ∙ same-sheet (given c) first second ∙ sheet-handed t stop first second c e
 
 -- after a refusal it is empty.
-pub sheet-refused : (t first second : List ℕ) (n : ℕ) → chooseAnswer t first second ≡ refused n → sheetOfCall (chooseAnswer t first second) first second ≡ []
-sheet-refused t first second n e = ap (λ (a : Answer ChosenSheet). sheetOfCall a first second) e ∙ same-sheet (refused n) first second ∙ choose-refused n first second [] .1
+pub sheet-refused : (t : List ℕ) (stop : ℕ) (first second : List ℕ) (n : ℕ) → chooseAnswer t stop first second ≡ refused n → sheetOfCall (chooseAnswer t stop first second) first second ≡ []
+sheet-refused t stop first second n e = ap (λ (a : Answer ChosenSheet). sheetOfCall a first second) e ∙ same-sheet (refused n) first second ∙ choose-refused n first second [] .1

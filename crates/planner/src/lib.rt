@@ -1,5 +1,6 @@
 // The public calls: planning and the part with the sheet to run, planning with a page, the check, the choice between two sheets and the sheet chosen;
-// and planning, check and choice from C. Document 01, its calls; document 02, L1 to L3.
+// and planning, check and choice from C. Document 01, its calls; document 02, L1 to L3, and L5: planning, page, check and choice take a stop, "the
+// number of references that count", and any number may be given; 21 if it is above N.
 use checking::Checked;
 use returning::Chosen;
 use returning::Planned;
@@ -10,18 +11,20 @@ ghost use Rattle.checking.specs.Checking.{checkedOf};
 ghost use Rattle.returning.specs.Returning.{plannedAs, chosenAs, whichGiven, whichBegins};
 ghost use Rattle.planner.specs.Planner.{planInto, pageInto, Unbeaten, Exact, Promised, Preferred};
 
-// Planning: a ticket, and the lent buffers for the short and the sparing sheet. What it returns, both buffers afterwards, and what is promised.
-pub fn plan(ticket: &[u8], short: &mut [u8], sparing: &mut [u8]) -> Planned
-    ensures { λ r. ⌜ (let a = planInto (now (ticket .entry)) (now (short .entry)) (now (sparing .entry)) in
+// Planning: a ticket, a stop, and the lent buffers for the short and the sparing sheet. What it returns, both buffers afterwards, and what is promised.
+pub fn plan(ticket: &[u8], stop: usize, short: &mut [u8], sparing: &mut [u8]) -> Planned
+    ensures { λ r. ⌜ (let a = planInto (now (ticket .entry)) stop (now (short .entry)) (now (sparing .entry)) in
         (r ≡ plannedAs (returned a))
         × (now (short .exit) ≡ shortAfter a (now (short .entry)))
         × (now (sparing .exit) ≡ sparingAfter a (now (sparing .entry)))
-        × Promised (now (ticket .entry)) a) ⌝ }
+        × Promised (now (ticket .entry)) stop a) ⌝ }
 {
-    let read = ticket::read(ticket);
-    if read.number != 0 {
-        return returning::refusal(read.number);
+    let mut read = ticket::read(ticket);
+    let number = ticket::stop_number(read.number, read.job.count, stop);
+    if number != 0 {
+        return returning::refusal(number);
     }
+    read.job.count = stop;
     handing::plan_job(read.job, short, sparing)
 }
 
@@ -37,58 +40,65 @@ pub fn part<'a>(short: &'a [u8], sparing: &'a [u8], planned: Planned) -> &'a [u8
     returning::handed_slice(which, planned.length, short, sparing)
 }
 
-// Planning with a page (L2): a ticket, and the lent buffers for the short and the sparing sheet and for the page of the plan handed back. What it
-// returns, the three buffers afterwards, and what is promised of planning.
+// Planning with a page (L2): a ticket, a stop, and the lent buffers for the short and the sparing sheet and for the page of the plan handed back. What
+// it returns, the three buffers afterwards, and what is promised of planning.
 pub fn plan_with_page(
     ticket: &[u8],
+    stop: usize,
     short: &mut [u8],
     sparing: &mut [u8],
     page: &mut [u8],
 ) -> PlannedPage
-    ensures { λ r. ⌜ (let a = pageInto (now (ticket .entry)) (now (short .entry)) (now (sparing .entry)) (now (page .entry)) in
+    ensures { λ r. ⌜ (let a = pageInto (now (ticket .entry)) stop (now (short .entry)) (now (sparing .entry)) (now (page .entry)) in
         (r .planned ≡ plannedAs (returned (planGiven a)))
         × (r .length ≡ pageLength a)
         × (now (short .exit) ≡ shortAfter (planGiven a) (now (short .entry)))
         × (now (sparing .exit) ≡ sparingAfter (planGiven a) (now (sparing .entry)))
         × (now (page .exit) ≡ pageAfter a (now (page .entry)))
-        × Promised (now (ticket .entry)) (planGiven a)) ⌝ }
+        × Promised (now (ticket .entry)) stop (planGiven a)) ⌝ }
 {
-    let read = ticket::read(ticket);
-    if read.number != 0 {
-        return returning::page_refusal(read.number);
+    let mut read = ticket::read(ticket);
+    let number = ticket::stop_number(read.number, read.job.count, stop);
+    if number != 0 {
+        return returning::page_refusal(number);
     }
+    read.job.count = stop;
     handing::page_job(read.job, short, sparing, page)
 }
 
-// The check: a ticket and a sheet. What it returns, and what is promised.
-pub fn check(ticket: &[u8], sheet: &[u8]) -> Checked
-    ensures { λ r. ⌜ (let a = checkAnswer (now (ticket .entry)) (now (sheet .entry)) in
+// The check: a ticket, a stop and a sheet. What it returns, and what is promised.
+pub fn check(ticket: &[u8], stop: usize, sheet: &[u8]) -> Checked
+    ensures { λ r. ⌜ (let a = checkAnswer (now (ticket .entry)) stop (now (sheet .entry)) in
         (r ≡ checkedOf a)
-        × Exact (now (ticket .entry)) (now (sheet .entry)) r
-        × Unbeaten (now (ticket .entry)) r) ⌝ }
+        × Exact (now (ticket .entry)) stop (now (sheet .entry)) r
+        × Unbeaten (now (ticket .entry)) stop r) ⌝ }
 {
-    let read = ticket::read(ticket);
-    if read.number != 0 {
+    let mut read = ticket::read(ticket);
+    let number = ticket::stop_number(read.number, read.job.count, stop);
+    if number != 0 {
         return Checked {
-            number: read.number,
+            number,
             rounds: 0,
             fetches: [0; 8],
         };
     }
+    read.job.count = stop;
     checking::check(read.job, sheet)
 }
 
-// The choice between two sheets for a ticket, whoever drew them up: "both are checked, the first before the second, and a failure gives the check's
+// The choice between two sheets for a ticket and a stop, whoever drew them up: "both are checked, the first before the second, and a failure gives the check's
 // number". What it returns, and what is promised. `chosen_sheet` hands back the sheet.
-pub fn choose(ticket: &[u8], first: &[u8], second: &[u8]) -> Chosen
-    ensures { λ r. ⌜ (let a = chooseAnswer (now (ticket .entry)) (now (first .entry)) (now (second .entry)) in
+pub fn choose(ticket: &[u8], stop: usize, first: &[u8], second: &[u8]) -> Chosen
+    ensures { λ r. ⌜ (let a = chooseAnswer (now (ticket .entry)) stop (now (first .entry)) (now (second .entry)) in
         (r ≡ chosenAs (returnedChoice a))
-        × Preferred (now (ticket .entry)) (now (first .entry)) (now (second .entry)) a) ⌝ }
+        × Preferred (now (ticket .entry)) stop (now (first .entry)) (now (second .entry)) a) ⌝ }
 {
-    let read = ticket::read(ticket);
-    if read.number != 0 {
-        return returning::no_choice(read.number);
+    let mut read = ticket::read(ticket);
+    let number = ticket::stop_number(read.number, read.job.count, stop);
+    if number != 0 {
+        return returning::no_choice(number);
     }
+    read.job.count = stop;
     let a = checking::check(read.job, first);
     if a.number != 0 {
         return returning::no_choice(a.number);
@@ -112,14 +122,14 @@ pub fn chosen_sheet<'a>(first: &'a [u8], second: &'a [u8], chosen: Chosen) -> &'
 
 // The check, from C: its number, and its rounds and eight fetch counts in `counts`, as far as that reaches.
 #[no_mangle]
-pub extern "C" fn planner_check(ticket: &[u8], sheet: &[u8], counts: &mut [u8]) -> u32
-    ensures { λ r. ⌜ (let a = checkAnswer (now (ticket .entry)) (now (sheet .entry)) in
+pub extern "C" fn planner_check(ticket: &[u8], stop: usize, sheet: &[u8], counts: &mut [u8]) -> u32
+    ensures { λ r. ⌜ (let a = checkAnswer (now (ticket .entry)) stop (now (sheet .entry)) in
         (r ≡ numberOf a)
         × (now (counts .exit) ≡ countsWritten countsNumbers a (now (counts .entry)))
-        × Exact (now (ticket .entry)) (now (sheet .entry)) (checkedOf a)
-        × Unbeaten (now (ticket .entry)) (checkedOf a)) ⌝ }
+        × Exact (now (ticket .entry)) stop (now (sheet .entry)) (checkedOf a)
+        × Unbeaten (now (ticket .entry)) stop (checkedOf a)) ⌝ }
 {
-    let c = check(ticket, sheet);
+    let c = check(ticket, stop, sheet);
     if c.number != 0 {
         return c.number as u32;
     }
@@ -133,18 +143,19 @@ pub extern "C" fn planner_check(ticket: &[u8], sheet: &[u8], counts: &mut [u8]) 
 #[no_mangle]
 pub extern "C" fn planner_plan(
     ticket: &[u8],
+    stop: usize,
     short: &mut [u8],
     sparing: &mut [u8],
     counts: &mut [u8],
 ) -> u32
-    ensures { λ r. ⌜ (let a = planInto (now (ticket .entry)) (now (short .entry)) (now (sparing .entry)) in
+    ensures { λ r. ⌜ (let a = planInto (now (ticket .entry)) stop (now (short .entry)) (now (sparing .entry)) in
         (r ≡ numberOf a)
         × (now (short .exit) ≡ shortAfter a (now (short .entry)))
         × (now (sparing .exit) ≡ sparingAfter a (now (sparing .entry)))
         × (now (counts .exit) ≡ countsWritten planningNumbers a (now (counts .entry)))
-        × Promised (now (ticket .entry)) a) ⌝ }
+        × Promised (now (ticket .entry)) stop a) ⌝ }
 {
-    let p = plan(ticket, short, sparing);
+    let p = plan(ticket, stop, short, sparing);
     if p.number != 0 {
         return p.number as u32;
     }
@@ -164,16 +175,17 @@ pub extern "C" fn planner_plan(
 #[no_mangle]
 pub extern "C" fn planner_choose(
     ticket: &[u8],
+    stop: usize,
     first: &[u8],
     second: &[u8],
     counts: &mut [u8],
 ) -> u32
-    ensures { λ r. ⌜ (let a = chooseAnswer (now (ticket .entry)) (now (first .entry)) (now (second .entry)) in
+    ensures { λ r. ⌜ (let a = chooseAnswer (now (ticket .entry)) stop (now (first .entry)) (now (second .entry)) in
         (r ≡ numberOf a)
         × (now (counts .exit) ≡ countsWritten choiceNumbers a (now (counts .entry)))
-        × Preferred (now (ticket .entry)) (now (first .entry)) (now (second .entry)) a) ⌝ }
+        × Preferred (now (ticket .entry)) stop (now (first .entry)) (now (second .entry)) a) ⌝ }
 {
-    let c = choose(ticket, first, second);
+    let c = choose(ticket, stop, first, second);
     if c.number != 0 {
         return c.number as u32;
     }

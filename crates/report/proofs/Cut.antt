@@ -16,7 +16,7 @@ use Rattle.bits.proofs.Bits.{length-bits}
 use Rattle.bits.proofs.Reading.{stop-got, got-rest, bind-got, field-length, closing-got}
 use Rattle.model.specs.Ticket.{slotsField, diskField, refField, ticketReader, ticketOf}
 use Rattle.model.specs.Job.{Job}
-use Rattle.model.specs.Calls.{planAnswer, plannedFor, pageAnswer, pageFor}
+use Rattle.model.specs.Calls.{stopAt, jobUpTo, referencesOf, planAnswer, plannedFor, pageAnswer, pageFor}
 use Rattle.report.specs.Report.{linesOf, disksOf, printed, pageLines, pagePrinted}
 
 -- what reading gives where more bits follow
@@ -138,9 +138,9 @@ cut-ticket t =
 
 -- What is printed for the first 2,508 bytes of an input is what is printed for the input, by `plan` and by `page`.
 pub cut-printed : (t : List ℕ) → printed (take 2508 t) ≡ printed t
-unfolding printed planAnswer
-cut-printed t = ap (λ (a : Answer Job). linesOf (disksOf a) (plannedFor 40962 40962 a)) (cut-ticket t)
+unfolding printed planAnswer jobUpTo
+cut-printed t = ap (λ (a : Answer Job). linesOf (disksOf a) (plannedFor 40962 40962 (stopAt (referencesOf a) a))) (cut-ticket t)
 
 pub cut-page : (room : ℕ) (t : List ℕ) → pagePrinted room (take 2508 t) ≡ pagePrinted room t
-unfolding pagePrinted pageAnswer
-cut-page room t = ap (λ (a : Answer Job). pageLines (pageFor 40962 40962 room a)) (cut-ticket t)
+unfolding pagePrinted pageAnswer jobUpTo
+cut-page room t = ap (λ (a : Answer Job). pageLines (pageFor 40962 40962 room (stopAt (referencesOf a) a))) (cut-ticket t)

@@ -8,9 +8,10 @@ use Rattle.bits.specs.Bits.{laid}
 use Rattle.bits.specs.Fields.{laidAt}
 use Rattle.bits.specs.Reading.{Answer, given, refused}
 use Rattle.bits.proofs.Fields.{laid-over, length-laid}
+use Rattle.model.specs.Ticket.{ticketOf}
 use Rattle.model.specs.Text.{text}
 use Rattle.model.specs.Plans.{each}
-use Rattle.model.specs.Calls.{returned, written, PlannedPage, pageAnswer, planGiven, pageLength, pageAfter, numberOf}
+use Rattle.model.specs.Calls.{referencesOf, returned, written, PlannedPage, pageAnswer, planGiven, pageLength, pageAfter, numberOf}
 use Rattle.model.proofs.Numbers.{page-within}
 use Rattle.model.proofs.Promises.{page-exactly}
 use Rattle.returning.specs.Returning.{plannedAs}
@@ -25,10 +26,17 @@ use Rattle.report.proofs.Laws.{end-seven}
 abbrev pub Printed : List ℕ → List ℕ → List ℕ → ℕ → Type 0
 Printed t out after n = (after ≡ laid (pagePrinted (length out) t) out) × (n ≡ length (pagePrinted (length out) t))
 
-module _ (t out : List ℕ) (r : PageValue) {after : List ℕ} (ep : r .planned ≡ plannedAs (returned (planGiven (pageAnswer t 40962 40962 (length out)))))
-    (el : r .length ≡ pageLength (pageAnswer t 40962 40962 (length out))) (ea : after ≡ pageAfter (pageAnswer t 40962 40962 (length out)) out) where
+-- what planning gives with the stop N
+module _ (t out : List ℕ) (stop : ℕ) (r : PageValue) {after : List ℕ}
+    (ep : r .planned ≡ plannedAs (returned (planGiven (pageAnswer t stop 40962 40962 (length out)))))
+    (el : r .length ≡ pageLength (pageAnswer t stop 40962 40962 (length out))) (ea : after ≡ pageAfter (pageAnswer t stop 40962 40962 (length out)) out)
+    (whole : stop ≡ referencesOf (ticketOf t)) where
   abbrev a : Answer PlannedPage
-  a = pageAnswer t 40962 40962 (length out)
+  a = pageAnswer t stop 40962 40962 (length out)
+
+  lines-are : pagePrinted (length out) t ≡ pageLines a
+  unfolding pagePrinted
+  lines-are = ap (λ (n : ℕ). pageLines (pageAnswer t n 40962 40962 (length out))) (sym whole)
 
   number-is : r .planned .number ≡ numberOf a
   unfolding plannedAs returned planGiven
@@ -43,32 +51,32 @@ module _ (t out : List ℕ) (r : PageValue) {after : List ℕ} (ep : r .planned 
     where
       go : (x : Answer PlannedPage) → a ≡ x → r .planned .number ≡ numberOf x → r .planned .number < 65536
       go (given p) q e = omega (arith, e)
-      go (refused n) q e = let b = page-within t 40962 40962 (length out) n q .1 in omega (arith, b, e)
+      go (refused n) q e = let b = page-within t stop 40962 40962 (length out) n q .1 in omega (arith, b, e)
 
   -- a refusal leaves the buffer as it was, and its line is put there
   pub refusal-printed : (r .planned .number ≡ 0 → ⊥) → {after′ : List ℕ} {n : ℕ} → Put 0 (refusalLine (r .planned .number)) after after′ n → Printed t out after′ n
-  unfolding pagePrinted pageLines written laidAt
+  unfolding pageLines written laidAt
   refusal-printed f {after′} {n} put =
       let e = refused-by a (r .planned .number) number-is f in
-      let same : pagePrinted (length out) t ≡ refusalLine (r .planned .number) = ap pageLines e in
+      let same : pagePrinted (length out) t ≡ refusalLine (r .planned .number) = lines-are ∙ ap pageLines e in
       let next = put .next in
       let long = ap length same in
       (put .bytes ∙ (λ i. laid (sym same i) ((ea ∙ ap (λ (x : Answer PlannedPage). pageAfter x out) e) i)), omega (arith, next, long))
 
   -- and otherwise the buffer holds the page
   pub page-printed : r .planned .number ≡ 0 → Printed t out after (r .length)
-  unfolding pagePrinted pageLines written pageLength
+  unfolding pageLines written pageLength
   page-printed z = go a refl
     where
       go : (x : Answer PlannedPage) → a ≡ x → Printed t out after (r .length)
       go (given p) q =
-          let fits = page-exactly t 40962 40962 (length out) p .0 q .4 in
-          let same : pagePrinted (length out) t ≡ p .page = ap pageLines q in (
+          let fits = page-exactly t stop 40962 40962 (length out) p .0 q .4 in
+          let same : pagePrinted (length out) t ≡ p .page = lines-are ∙ ap pageLines q in (
             ea ∙ ap (λ (x : Answer PlannedPage). pageAfter x out) q ∙ sym (laid-over (p .page) out fits) ∙ ap (λ (s : List ℕ). laid s out) (sym same),
             el ∙ ap pageLength q ∙ ap length (sym same),
           )
       go (refused n) q =
-          let b = page-within t 40962 40962 (length out) n q .0 in
+          let b = page-within t stop 40962 40962 (length out) n q .0 in
           let e = number-is ∙ ap numberOf q in
           absurd (omega (arith, b, e, z))
 
@@ -76,14 +84,17 @@ module _ (t out : List ℕ) (r : PageValue) {after : List ℕ} (ep : r .planned 
 pub printed-within : (t out : List ℕ) {after : List ℕ} {n : ℕ} → 278613 ≤ length out → Printed t out after n → n ≤ length after
 unfolding pagePrinted pageLines refusalLine text each laidAt
 printed-within t out {after} {n} some h =
-    let l = go (pageAnswer t 40962 40962 (length out)) refl in
+    let l = go (pageAnswer t stop 40962 40962 (length out)) refl in
     let same = ap length (h .0) ∙ length-laid 0 (pagePrinted (length out) t) out in
     let e = h .1 in
     omega (arith, e, l, same)
   where
-    go : (x : Answer PlannedPage) → pageAnswer t 40962 40962 (length out) ≡ x → length (pageLines x) ≤ length out
-    go (given p) q = page-exactly t 40962 40962 (length out) p .0 q .4
+    stop : ℕ
+    stop = referencesOf (ticketOf t)
+
+    go : (x : Answer PlannedPage) → pageAnswer t stop 40962 40962 (length out) ≡ x → length (pageLines x) ≤ length out
+    go (given p) q = page-exactly t stop 40962 40962 (length out) p .0 q .4
     go (refused k) q =
-        let b = page-within t 40962 40962 (length out) k q .1 in
+        let b = page-within t stop 40962 40962 (length out) k q .1 in
         let few = end-seven k (omega (arith, b)) in
         omega (arith, few, some)

@@ -11,9 +11,9 @@ use Rattle.bits.specs.Reading.{Answer, given, refused}
 use Rattle.job.specs.Meaning.{stored}
 use Rattle.model.specs.Job.{Job}
 use Rattle.model.specs.Ticket.{ticketOf}
-use Rattle.model.specs.Calls.{isShort, isSparing, Mark, countsOf, fetchesOn, chosen, plannedOf, planAnswer, returned}
+use Rattle.model.specs.Calls.{referencesOf, isShort, isSparing, Mark, countsOf, fetchesOn, chosen, plannedOf, planAnswer, returned}
 use Rattle.model.specs.Calls.{Planned as PlanGiven}
-use Rattle.model.proofs.Check.{ticket-sound}
+use Rattle.model.proofs.Ticket.{ticket-sound}
 use Rattle.model.proofs.Promises.{short-rounds, sparing-rounds}
 use Rattle.model.proofs.Numbers.{plan-within}
 use Rattle.model.proofs.Bytes
@@ -25,15 +25,15 @@ use Rattle.report.specs.Report.{lineEnd, markWord, diskLines, linesOf, d
 use Rattle.report.specs.Text.{Put, planText, textBy, textOf, Small}
 
 -- the numbers of a call are small
-pub small : (t : List ℕ) (a b : ℕ) (r : Planned) → r ≡ plannedAs (returned (planAnswer t a b)) → Small r
+pub small : (t : List ℕ) (stop a b : ℕ) (r : Planned) → r ≡ plannedAs (returned (planAnswer t stop a b)) → Small r
 unfolding plannedAs returned plannedOf countsOf
-small t a b r e = subst Small (sym e) (go (planAnswer t a b) refl)
+small t stop a b r e = subst Small (sym e) (go (planAnswer t stop a b) refl)
   where
-    go : (x : Answer PlanGiven) → planAnswer t a b ≡ x → Small (plannedAs (returned x))
+    go : (x : Answer PlanGiven) → planAnswer t stop a b ≡ x → Small (plannedAs (returned x))
     go (given p) q =
-        let w = Bytes.planned t a b p q in
-        subst (λ (x : PlanGiven). Small (plannedAs (returned (given x)))) (w .2) (record { number = omega arith; short = short-rounds t (w .0) (w .1) .2; sparing = sparing-rounds t (w .0) (w .1) .2 })
-    go (refused n) q = record { number = plan-within t a b n q .1; short = omega arith; sparing = omega arith }
+        let w = Bytes.planned t stop a b p q in
+        subst (λ (x : PlanGiven). Small (plannedAs (returned (given x)))) (w .2) (record { number = omega arith; short = short-rounds t stop (w .0) (w .1) .2; sparing = sparing-rounds t stop (w .0) (w .1) .2 })
+    go (refused n) q = record { number = plan-within t stop a b n q .1; short = omega arith; sparing = omega arith }
 
 -- the disks that were read are those of the ticket's job, at most eight
 same-disks : (a : Answer Job) → answerOf a .job .disks ≡ disksOf a
@@ -48,7 +48,17 @@ few-disks t = go (ticketOf t) refl
     go (given j) e = ticket-sound t j e .fewDisks
     go (refused n) e = omega arith
 
+-- and the references are N, the stop
+same-references : (a : Answer Job) → answerOf a .job .count ≡ referencesOf a
+unfolding answerOf noTicket stored
+same-references (given j) = refl
+same-references (refused n) = refl
+
 module _ (t : List ℕ) (read : Ticket) (e : read ≡ ticketRead t) where
+  pub references-are : read .job .count ≡ referencesOf (ticketOf t)
+  unfolding ticketRead
+  references-are = ap (λ (x : Ticket). x .job .count) e ∙ same-references (ticketOf t)
+
   disks-are : read .job .disks ≡ disksOf (ticketOf t)
   unfolding ticketRead
   disks-are = ap (λ (x : Ticket). x .job .disks) e ∙ same-disks (ticketOf t)
@@ -67,12 +77,14 @@ same-text disks (given p) = by-mark (p .mark)
     by-mark isSparing = refl
 same-text disks (refused n) = refl
 
--- what is put is what is printed
-pub put-printed : (t : List ℕ) (read : Ticket) (planned : Planned) (before after : List ℕ) (r : ℕ) → read ≡ ticketRead t → planned ≡ plannedAs (returned (planAnswer t 40962 40962))
-    → Put 0 (textOf planned (read .job .disks)) before after r → (after ≡ laid (printed t) before) × (r ≡ length (printed t))
+-- what is put, after planning with the stop N, is what is printed
+pub put-printed : (t : List ℕ) (stop : ℕ) (read : Ticket) (planned : Planned) (before after : List ℕ) (r : ℕ) → planned ≡ plannedAs (returned (planAnswer t stop 40962 40962))
+    → stop ≡ referencesOf (ticketOf t) → read ≡ ticketRead t → Put 0 (textOf planned (read .job .disks)) before after r → (after ≡ laid (printed t) before) × (r ≡ length (printed t))
 unfolding printed laidAt
-put-printed t read planned before after r e q p =
-    let same : textOf planned (read .job .disks) ≡ printed t = (λ i. textOf (q i) (disks-are t read e i)) ∙ same-text (disksOf (ticketOf t)) (planAnswer t 40962 40962) in
+put-printed t stop read planned before after r q whole e p =
+    let a = planAnswer t (referencesOf (ticketOf t)) 40962 40962 in
+    let with-n = q ∙ ap (λ (n : ℕ). plannedAs (returned (planAnswer t n 40962 40962))) whole in
+    let same : textOf planned (read .job .disks) ≡ printed t = (λ i. textOf (with-n i) (disks-are t read e i)) ∙ same-text (disksOf (ticketOf t)) a in
     let n = p .next in
     let l = ap length same in
     (p .bytes ∙ ap (λ (s : List ℕ). laid s before) same, omega (arith, n, l))

@@ -6,7 +6,7 @@ use Rattle.bits.specs.Reading.{Answer, given, refused}
 use Rattle.model.specs.Job.{Job, diskCount}
 use Rattle.model.specs.Ticket.{ticketOf}
 use Rattle.model.specs.Text.{text, decimal}
-use Rattle.model.specs.Calls.{fetchesOn, Mark, isShort, isSparing, Planned, handedCounts, planAnswer, PlannedPage, pageAnswer}
+use Rattle.model.specs.Calls.{referencesOf, fetchesOn, Mark, isShort, isSparing, Planned, handedCounts, planAnswer, PlannedPage, pageAnswer}
 
 -- "a space and the number. Every line ends in a line feed."
 unfoldable pub lineEnd : ℕ → List ℕ
@@ -39,10 +39,10 @@ abbrev pub disksOf : Answer Job → ℕ
 disksOf (given j) = diskCount j
 disksOf (refused n) = 0
 
--- The text of `plan` for a ticket. "The longest sheet" has 40,962 bytes.
+-- The text of `plan` for a ticket. "The longest sheet" has 40,962 bytes. L5: "the program's is N", which the ticket says.
 unfoldable pub printed : List ℕ → List ℕ
 unfolding linesOf ticketOf planAnswer
-printed t = linesOf (disksOf (ticketOf t)) (planAnswer t 40962 40962)
+printed t = linesOf (disksOf (ticketOf t)) (planAnswer t (referencesOf (ticketOf t)) 40962 40962)
 
 -- The text of `page` for a ticket: its page, in a buffer of `room` bytes, or why there is none.
 unfoldable pub pageLines : Answer PlannedPage → List ℕ
@@ -51,5 +51,5 @@ pageLines (given p) = p .page
 pageLines (refused n) = refusalLine n
 
 unfoldable pub pagePrinted : ℕ → List ℕ → List ℕ
-unfolding pageLines pageAnswer
-pagePrinted room t = pageLines (pageAnswer t 40962 40962 room)
+unfolding pageLines ticketOf pageAnswer
+pagePrinted room t = pageLines (pageAnswer t (referencesOf (ticketOf t)) 40962 40962 room)

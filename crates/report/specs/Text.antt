@@ -30,8 +30,8 @@ unfoldable pub textOf : Planned → ℕ → List ℕ
 unfolding planText refusalLine
 textOf p disks = textBy (p .mark) p disks
 
--- The numbers of a call and of its plans are as document 01 bounds them.
+-- The numbers of a call and of its plans are as documents 01 and 02 bound them.
 pub record Small (p : Planned) : Type 0 where
-  pub number : p .number ≤ 18
+  pub number : p .number ≤ 21
   pub short : p .short .rounds ≤ 2048
   pub sparing : p .sparing .rounds ≤ 2048

@@ -1,5 +1,5 @@
 // The texts that the programs print for a ticket. Document 01: "mark and rounds of the chosen plan, then each disk with its fetches in that plan. A
-// refusal prints `refused`, a space and the number. Every line ends in a line feed." Document 02, L2: the page.
+// refusal prints `refused`, a space and the number. Every line ends in a line feed." Document 02, L2: the page; L5: the stop, which "is N".
 use returning::Counts;
 use returning::Mark;
 use returning::Planned;
@@ -128,8 +128,8 @@ pub fn report(ticket: &[u8], out: &mut [u8]) -> usize
 {
     let mut short = [0u8; 40962];
     let mut sparing = [0u8; 40962];
-    let planned = planner::plan(ticket, &mut short, &mut sparing);
     let read = ticket::read(ticket);
+    let planned = planner::plan(ticket, read.job.count, &mut short, &mut sparing);
     let disks = read.job.disks;
     put_planned(out, planned, disks)
 }
@@ -141,7 +141,8 @@ pub fn page(ticket: &[u8], out: &mut [u8]) -> usize
 {
     let mut short = [0u8; 40962];
     let mut sparing = [0u8; 40962];
-    let paged = planner::plan_with_page(ticket, &mut short, &mut sparing, out);
+    let read = ticket::read(ticket);
+    let paged = planner::plan_with_page(ticket, read.job.count, &mut short, &mut sparing, out);
     let number = paged.planned.number;
     if number != 0 {
         return put_refusal(out, number);

@@ -1,6 +1,8 @@
--- What reading a ticket gives. Assumes nothing.
+-- What reading a ticket gives, and the number of a ticket and a stop. Assumes nothing.
+use mathlib.Core.Bool.{cond}
 use mathlib.Core.List.{List, []}
 use Prim.Native.Nat.{ℕ}
+use lib.Dec.{ltb, eqb}
 use Rattle.bits.specs.Reading.{Answer, given, refused}
 use Rattle.model.specs.Job.{Job}
 use Rattle.model.specs.Ticket.{ticketOf}
@@ -26,3 +28,7 @@ answerOf (refused n) = noTicket n
 unfoldable pub ticketRead : List ℕ → Ticket
 unfolding answerOf
 ticketRead t = answerOf (ticketOf t)
+
+-- L5: "21, the stop is above N, tested after 8": the number of a ticket with that number and N references, and a stop.
+unfoldable pub stopNumber : ℕ → ℕ → ℕ → ℕ
+stopNumber number references stop = cond (eqb number 0) (cond (ltb references stop) 21 0) number

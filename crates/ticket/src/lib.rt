@@ -1,11 +1,11 @@
-// A ticket's bytes read, field by field, into a job by value.
+// A ticket's bytes read, field by field, into a job by value; the number of a stop.
 mod fields;
 
 use bits::read::closed;
 use fields::table_part;
 use job::Job;
 ghost use mathlib.Core.Path.{_≡_};
-ghost use Rattle.ticket.specs.Meaning.{noTicket, ticketRead};
+ghost use Rattle.ticket.specs.Meaning.{noTicket, ticketRead, stopNumber};
 ghost use Rattle.ticket.specs.Parts.{diskRow, refRow};
 
 // What reading a ticket gives: 0 and its job, or the number with which the ticket is refused and an empty job.
@@ -141,4 +141,18 @@ pub fn read(t: &[u8]) -> Ticket
         refs,
     };
     Ticket { number: 0, job }
+}
+
+// The number of a ticket that was read, with that number and so many references, and a stop: "21, the stop is above N, tested after 8". Where it is 0,
+// the job up to the stop is the ticket's with the stop as its count.
+pub fn stop_number(number: usize, references: usize, stop: usize) -> usize
+    ensures { λ r. ⌜ r ≡ stopNumber number references stop ⌝ }
+{
+    if number != 0 {
+        return number;
+    }
+    if references < stop {
+        return 21;
+    }
+    0
 }

@@ -6,6 +6,7 @@ use Rattle.cases.proofs.read_number.Reads as reads
 use Rattle.cases.proofs.read_number.Lts as lts
 use Rattle.cases.proofs.digit.Reads as digit-reads
 use Rattle.cases.proofs.next.Reads as next-reads
+use Rattle.cases.proofs.with_digit.Reads as with-digit-reads
 
 abbrev Inv-loop : tie.InvT-loop
 Inv-loop n₀ left₀ n left = Unit {0}
@@ -25,14 +26,11 @@ digit-requires c κs = search needs
 returns : tie.Need-returns Inv-loop μ-loop
 returns c = search needs
 
-mul-n : tie.Need-mul-n Inv-loop μ-loop
-mul-n c = search needs
+cast-with-digit : tie.Need-cast-with-digit Inv-loop μ-loop
+cast-with-digit c = search needs
 
-cast-n : tie.Need-cast-n Inv-loop μ-loop
-cast-n c = search needs
-
-add-n : tie.Need-add-n Inv-loop μ-loop
-add-n c = search needs
+with-digit-requires : tie.Need-with-digit-requires Inv-loop μ-loop
+with-digit-requires c κs = search needs
 
 sub-left : tie.Need-sub-left Inv-loop μ-loop
 sub-left c = search needs
@@ -56,9 +54,8 @@ read-number-spec =
     next-requires
     digit-requires
     returns
-    mul-n
-    cast-n
-    add-n
+    cast-with-digit
+    with-digit-requires
     sub-left
     loop-less
     loop-again

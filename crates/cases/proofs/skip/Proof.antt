@@ -7,10 +7,10 @@ use Rattle.cases.proofs.skip.Lts as lts
 use Rattle.cases.proofs.next.Reads as next-reads
 
 abbrev Inv-loop : tie.InvT-loop
-Inv-loop stop turns₀ turns = Unit {0}
+Inv-loop last turns₀ turns = Unit {0}
 
 abbrev μ-loop : tie.MeasureT-loop
-μ-loop stop turns₀ turns = turns
+μ-loop last turns₀ turns = turns
 
 loop-holds : tie.Need-loop-holds Inv-loop μ-loop
 loop-holds c = search needs

@@ -1,7 +1,8 @@
--- `planner::choose` meets its contract: where the ticket is refused, where the first sheet is, where the second is, and where both pass. Assumes
--- nothing.
+-- `planner::choose` meets its contract: where the ticket or the stop is refused, where the first sheet is, where the second is, and where both
+-- pass. Assumes nothing.
 use mathlib.Core.Path.{_≡_}
 use denote.Ref.{now}
+use Rattle.job.specs.Meaning.{counting, Fits}
 use Rattle.model.specs.Calls.{checkAnswer}
 use Rattle.checking.specs.Checking.{checkedOf}
 use Rattle.planner.proofs.Laws.{ticket-refused, ticket-fits, check-given}
@@ -19,22 +20,40 @@ use Rattle.ticket.proofs.read.Reads as read-reads
 read-requires : tie.Need-read-requires
 read-requires c κs = search needs
 
+stop-number-requires : tie.Need-stop-number-requires
+stop-number-requires c κs = search needs
+
 no-choice-requires : tie.Need-no-choice-requires
 no-choice-requires c κs = search needs
 
 returns : tie.Need-returns
 returns c =
-    let e = c .before .before .before .before .before .before .before .args in
-    ticket-stops (now (e .ticket)) (now (e .first)) (now (e .second)) _ _ (ticket-refused _ _ (c .before .before .before .read .ensures) (c .before .if1 .taken)) (c .no-choice .ensures)
+    let number = c .before .before in
+    let read = number .before in
+    let e = read .before .before .before .before .args in
+    ticket-stops (now (e .ticket)) (e .stop) (now (e .first)) (now (e .second)) _ _
+    (ticket-refused _ _ _ (read .read .ensures) _ (number .stop-number .ensures) (c .before .if1 .taken)) (c .no-choice .ensures)
+
+-- where neither is refused
+fits : (k : tie.Else1) → Fits (counting (k .before .before .before .before .before .before .args .stop) (k .before .before .read .result .job))
+fits k =
+    let number = k .before in
+    ticket-fits _ _ _ (number .before .read .ensures) _ (number .stop-number .ensures) (k .if1 .left)
 
 check-requires : tie.Need-check-requires
-check-requires c κs = ticket-fits _ _ (c .before .before .read .ensures) (c .if1 .left)
+unfolding counting
+check-requires c κs = fits (c .before)
 
 -- after the check of the first sheet
-first-is : (k : tie.After-check) → (let e = k .before .before .before .before .before .before .before .args in k .check .result ≡ checkedOf (checkAnswer (now (e .ticket)) (now (e .first))))
+first-is : (k : tie.After-check)
+    → (let e = k .before .before .before .before .before .before .before .before .args in k .check .result ≡ checkedOf (checkAnswer (now (e .ticket)) (e .stop) (now (e .first))))
+unfolding counting
 first-is k =
-    let e = k .before .before .before .before .before .before .before .args in
-    check-given (now (e .ticket)) _ (k .before .before .before .read .ensures) (now (e .first)) _ (k .before .if1 .left) (k .check .ensures) .0
+    let left = k .before .before in
+    let number = left .before in
+    let read = number .before in
+    let e = read .before .before .before .before .args in
+    check-given (now (e .ticket)) (e .stop) _ (read .read .ensures) _ (number .stop-number .ensures) (now (e .first)) _ (left .if1 .left) (k .check .ensures) .0
 
 no-choice-requires-2 : tie.Need-no-choice-requires-2
 no-choice-requires-2 c κs = search needs
@@ -42,17 +61,23 @@ no-choice-requires-2 c κs = search needs
 returns-2 : tie.Need-returns-2
 returns-2 c =
     let k = c .before .before .before in
-    let e = k .before .before .before .before .before .before .before .args in
-    first-stops (now (e .ticket)) (now (e .first)) (now (e .second)) _ (first-is k) _ (c .before .if2 .taken) (c .no-choice2 .ensures)
+    let e = k .before .before .before .before .before .before .before .before .args in
+    first-stops (now (e .ticket)) (e .stop) (now (e .first)) (now (e .second)) _ (first-is k) _ (c .before .if2 .taken) (c .no-choice2 .ensures)
 
 check-requires-2 : tie.Need-check-requires-2
-check-requires-2 c κs = ticket-fits _ _ (c .before .before .before .before .before .read .ensures) (c .before .before .before .if1 .left)
+unfolding counting
+check-requires-2 c κs = fits (c .before .before .before .before)
 
 -- after that of the second
-second-is : (k : tie.After-check2) → (let e = k .before .before .before .before .before .before .before .before .before .before .args in k .check2 .result ≡ checkedOf (checkAnswer (now (e .ticket)) (now (e .second))))
-second-is k =
-    let e = k .before .before .before .before .before .before .before .before .before .before .args in
-    check-given (now (e .ticket)) _ (k .before .before .before .before .before .before .read .ensures) (now (e .second)) _ (k .before .before .before .before .if1 .left) (k .check2 .ensures) .0
+second-is : (l : tie.After-check2)
+    → (let e = l .before .before .before .before .before .before .before .before .before .before .before .args in l .check2 .result ≡ checkedOf (checkAnswer (now (e .ticket)) (e .stop) (now (e .second))))
+unfolding counting
+second-is l =
+    let left = l .before .before .before .before .before in
+    let number = left .before in
+    let read = number .before in
+    let e = read .before .before .before .before .args in
+    check-given (now (e .ticket)) (e .stop) _ (read .read .ensures) _ (number .stop-number .ensures) (now (e .second)) _ (left .if1 .left) (l .check2 .ensures) .0
 
 no-choice-requires-3 : tie.Need-no-choice-requires-3
 no-choice-requires-3 c κs = search needs
@@ -61,8 +86,8 @@ returns-3 : tie.Need-returns-3
 returns-3 c =
     let l = c .before .before .before in
     let k = l .before .before .before in
-    let e = k .before .before .before .before .before .before .before .args in
-    second-stops (now (e .ticket)) (now (e .first)) (now (e .second)) _ (first-is k) (l .before .if2 .left) _ (second-is l) _ (c .before .if3 .taken) (c .no-choice3 .ensures)
+    let e = k .before .before .before .before .before .before .before .before .args in
+    second-stops (now (e .ticket)) (e .stop) (now (e .first)) (now (e .second)) _ (first-is k) (l .before .if2 .left) _ (second-is l) _ (c .before .if3 .taken) (c .no-choice3 .ensures)
 
 preference-requires : tie.Need-preference-requires
 preference-requires c κs = search needs
@@ -71,14 +96,15 @@ returns-4 : tie.Need-returns-4
 returns-4 c =
     let l = c .before .before .before in
     let k = l .before .before .before in
-    let e = k .before .before .before .before .before .before .before .args in
-    both-chosen (now (e .ticket)) (now (e .first)) (now (e .second)) _ (first-is k) (l .before .if2 .left) _ (second-is l) _ (c .before .if3 .left) (c .preference .ensures)
+    let e = k .before .before .before .before .before .before .before .before .args in
+    both-chosen (now (e .ticket)) (e .stop) (now (e .first)) (now (e .second)) _ (first-is k) (l .before .if2 .left) _ (second-is l) _ (c .before .if3 .left) (c .preference .ensures)
 
 pub choose-spec : {M : Type 1} → statement M
 choose-spec =
     tie.close
     (tie.spec
     read-requires
+    stop-number-requires
     no-choice-requires
     returns
     check-requires

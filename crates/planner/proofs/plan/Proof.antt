@@ -1,6 +1,7 @@
--- `planner::plan` meets its contract, for a ticket that is refused and for one that is not. Assumes nothing.
+-- `planner::plan` meets its contract, for a ticket or a stop that is refused and for others. Assumes nothing.
 use mathlib.Core.Path.{refl}
 use denote.Ref.{now}
+use Rattle.job.specs.Meaning.{counting}
 use Rattle.model.specs.Calls.{plannedFor}
 use Rattle.planner.proofs.Laws.{ticket-refused, ticket-given, ticket-fits}
 use Rattle.handing.proofs.Rooms.{gives-refused}
@@ -17,19 +18,27 @@ use Rattle.ticket.proofs.read.Reads as read-reads
 read-requires : tie.Need-read-requires
 read-requires c κs = search needs
 
+stop-number-requires : tie.Need-stop-number-requires
+stop-number-requires c κs = search needs
+
 refusal-requires : tie.Need-refusal-requires
 refusal-requires c κs = search needs
 
 returns : tie.Need-returns
 unfolding plannedFor
 returns c =
-    let e = c .before .before .before .before .before .before .before in
-    let t = now (e .args .ticket) in
-    gives-ticket t (now (e .args .short)) (now (e .args .sparing)) _ _ _ _ (ticket-refused t _ (c .before .before .before .read .ensures) (c .before .if1 .taken))
-    (gives-refused _ _ _ _ _ refl (c .refusal .ensures))
+    let number = c .before .before in
+    let read = number .before in
+    let e = read .before .before .before .before .args in
+    gives-ticket (now (e .ticket)) (e .stop) (now (e .short)) (now (e .sparing)) _ _ _ _
+    (ticket-refused _ _ _ (read .read .ensures) _ (number .stop-number .ensures) (c .before .if1 .taken)) (gives-refused _ _ _ _ _ refl (c .refusal .ensures))
 
 plan-job-requires : tie.Need-plan-job-requires
-plan-job-requires c κs = ticket-fits _ _ (c .before .before .before .before .read .ensures) (c .before .before .if1 .left)
+unfolding counting
+plan-job-requires c κs =
+    let left = c .before .before .before in
+    let number = left .before in
+    ticket-fits _ _ _ (number .before .read .ensures) _ (number .stop-number .ensures) (left .if1 .left)
 
 same-length : tie.Need-same-length
 same-length c = search needs
@@ -38,16 +47,22 @@ same-length-2 : tie.Need-same-length-2
 same-length-2 c = search needs
 
 returns-2 : tie.Need-returns-2
+unfolding counting
 returns-2 c =
-    let e = c .before .before .before .before .before .before .before .before .before .before .before .before .before in
-    let t = now (e .args .ticket) in
-    gives-ticket t (now (e .args .short)) (now (e .args .sparing)) _ _ _ _ (ticket-given t _ (c .before .before .before .before .before .before .before .before .before .read .ensures) (c .before .before .before .before .before .before .before .if1 .left)) (c .before .before .before .before .plan-job .ensures)
+    let job = c .before .before .before .before in
+    let left = job .before .before .before .before in
+    let number = left .before in
+    let read = number .before in
+    let e = read .before .before .before .before .args in
+    gives-ticket (now (e .ticket)) (e .stop) (now (e .short)) (now (e .sparing)) _ _ _ _
+    (ticket-given _ _ _ (read .read .ensures) _ (number .stop-number .ensures) (left .if1 .left)) (job .plan-job .ensures)
 
 pub plan-spec : {M : Type 1} → statement M
 plan-spec =
     tie.close
     (tie.spec
     read-requires
+    stop-number-requires
     refusal-requires
     returns
     plan-job-requires

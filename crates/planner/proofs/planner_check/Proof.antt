@@ -14,13 +14,13 @@ check-requires : tie.Need-check-requires
 check-requires c κs = search needs
 
 cast-result : tie.Need-cast-result
-cast-result c = check-small _ _ _ (c .before .before .before .check .ensures .0)
+cast-result c = check-small _ _ _ _ (c .before .before .before .check .ensures .0)
 
 returns : tie.Need-returns
 returns c =
     let e = c .before .before .before .before .before .before .before .args in
-    let u = check-stopped _ _ _ (c .before .before .before .check .ensures .0) _ (c .before .if1 .taken) in
-    let p = check-promised (now (e .ticket)) (now (e .sheet)) in
+    let u = check-stopped _ _ _ _ (c .before .before .before .check .ensures .0) _ (c .before .if1 .taken) in
+    let p = check-promised (now (e .ticket)) (e .stop) (now (e .sheet)) in
     (u .0, u .1, p .0, p .1)
 
 lay-counts-requires : tie.Need-lay-counts-requires
@@ -32,8 +32,8 @@ same-length c = search needs
 returns-2 : tie.Need-returns-2
 returns-2 c =
     let e = c .before .before .before .before .before .before .before .before .before .before .before .args in
-    let u = check-passed _ _ _ (c .before .before .before .before .before .before .before .check .ensures .0) (now (e .counts)) _ (c .before .before .before .before .before .if1 .left) (c .before .before .lay-counts .ensures) in
-    let p = check-promised (now (e .ticket)) (now (e .sheet)) in
+    let u = check-passed _ _ _ _ (c .before .before .before .before .before .before .before .check .ensures .0) (now (e .counts)) _ (c .before .before .before .before .before .if1 .left) (c .before .before .lay-counts .ensures) in
+    let p = check-promised (now (e .ticket)) (e .stop) (now (e .sheet)) in
     (u .0, u .1, p .0, p .1)
 
 pub planner-check-spec : {M : Type 1} → statement M

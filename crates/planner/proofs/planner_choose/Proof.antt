@@ -14,12 +14,12 @@ choose-requires : tie.Need-choose-requires
 choose-requires c κs = search needs
 
 cast-result : tie.Need-cast-result
-cast-result c = choice-small _ _ _ _ (c .before .before .before .choose .ensures .0)
+cast-result c = choice-small _ _ _ _ _ (c .before .before .before .choose .ensures .0)
 
 returns : tie.Need-returns
 returns c =
     let k = c .before .before .before .choose .ensures in
-    let u = choice-stopped _ _ _ _ (k .0) _ (c .before .if1 .taken) in
+    let u = choice-stopped _ _ _ _ _ (k .0) _ (c .before .if1 .taken) in
     (u .0, u .1, k .1)
 
 of-which-requires : tie.Need-of-which-requires
@@ -38,7 +38,7 @@ returns-2 : tie.Need-returns-2
 returns-2 c =
     let e = c .before .before .before .before .before .before .before .before .before .before .before .before .before .before .before .before .args in
     let k = c .before .before .before .before .before .before .before .before .before .before .before .choose .ensures in
-    let u = choice-passed _ _ _ _ (k .0) (now (e .counts)) _ _ _ (c .before .before .before .before .before .before .before .before .before .if1 .left) (c .before .before .before .before .before .before .before .of-which .ensures) (c .before .before .before .before .before .before .lay16 .ensures) (c .before .before .lay162 .ensures) in
+    let u = choice-passed _ _ _ _ _ (k .0) (now (e .counts)) _ _ _ (c .before .before .before .before .before .before .before .before .before .if1 .left) (c .before .before .before .before .before .before .before .of-which .ensures) (c .before .before .before .before .before .before .lay16 .ensures) (c .before .before .lay162 .ensures) in
     (u .0, u .1, k .1)
 
 pub planner-choose-spec : {M : Type 1} → statement M

@@ -15,7 +15,7 @@ plan-requires : tie.Need-plan-requires
 plan-requires c κs = search needs
 
 cast-result : tie.Need-cast-result
-cast-result c = plan-small _ _ _ _ (c .before .before .before .before .before .before .before .plan .ensures .0)
+cast-result c = plan-small _ _ _ _ _ (c .before .before .before .before .before .before .before .plan .ensures .0)
 
 same-length : tie.Need-same-length
 same-length c = search needs
@@ -26,7 +26,7 @@ same-length-2 c = search needs
 returns : tie.Need-returns
 returns c =
     let k = c .before .before .before .before .before .before .before .plan .ensures in
-    let u = plan-stopped _ _ _ _ (k .0) _ (c .before .if1 .taken) in
+    let u = plan-stopped _ _ _ _ _ (k .0) _ (c .before .if1 .taken) in
     (u .0, k .1, k .2, u .1, k .3)
 
 mark-number-requires : tie.Need-mark-number-requires
@@ -56,7 +56,7 @@ same-length-5 c = search needs
 returns-2 : tie.Need-returns-2
 returns-2 c =
     let k = c .before .before .before .before .before .before .before .before .before .before .before .before .before .before .before .before .before .before .before .before .before .before .before .before .before .before .before .plan .ensures in
-    let u = plan-passed _ _ _ _ (k .0) (now (c .before .before .before .before .before .before .before .before .before .before .before .before .before .before .before .before .before .before .before .before .before .before .before .before .before .before .before .before .before .before .before .before .before .before .args .counts)) _ _ _ _ _ (c .before .before .before .before .before .before .before .before .before .before .before .before .before .before .before .before .before .before .before .before .before .if1 .left) (c .before .before .before .before .before .before .before .before .before .before .before .before .before .before .before .mark-number .ensures) (c .before .before .before .before .before .before .before .before .before .before .before .before .before .before .lay16 .ensures) (c .before .before .before .before .before .before .before .before .before .before .lay162 .ensures) (c .before .before .before .before .before .before .lay-counts .ensures) (c .before .before .lay-counts2 .ensures) in
+    let u = plan-passed _ _ _ _ _ (k .0) (now (c .before .before .before .before .before .before .before .before .before .before .before .before .before .before .before .before .before .before .before .before .before .before .before .before .before .before .before .before .before .before .before .before .before .before .args .counts)) _ _ _ _ _ (c .before .before .before .before .before .before .before .before .before .before .before .before .before .before .before .before .before .before .before .before .before .if1 .left) (c .before .before .before .before .before .before .before .before .before .before .before .before .before .before .before .mark-number .ensures) (c .before .before .before .before .before .before .before .before .before .before .before .before .before .before .lay16 .ensures) (c .before .before .before .before .before .before .before .before .before .before .lay162 .ensures) (c .before .before .before .before .before .before .lay-counts .ensures) (c .before .before .lay-counts2 .ensures) in
     (u .0, k .1, k .2, u .1, k .3)
 
 pub planner-plan-spec : {M : Type 1} → statement M
