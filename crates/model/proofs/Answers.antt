@@ -426,8 +426,8 @@ table =
     -- The reference at the stop is the first that does not count: after that sheet the references 5 and 6 are in the buffers, and 7 is not.
     rowUpTo 7 (check ticketG (hex 10 0x00480102201202203808)) (passes (counts 4 4 1)) refl ∷
     rowUpTo 8 (check ticketG (hex 10 0x00480102201202203808)) (number 15) refl ∷
-    -- "The lookup of the next reference now answers "never" for references at or past the stop": for the string 0 1 2 1 block 2 replaces block 0, which is
-    -- not read again; up to 3 neither of the two is, and it replaces block 1, the highest.
+    -- "The lookup of the next reference now answers "never" for references at or past the stop": for the string 0 1 2 1 block 2 replaces block 0, which
+    -- is not read again; up to 3 neither of the two is, and it replaces block 1, the highest.
     row (plan ticketAgain) (planned isSparing 7 (counts 3 3 0) (counts 3 3 0) (hex 7 0x00380100a02800) (hex 7 0x00380100a02800)) refl ∷
     rowUpTo 3 (plan ticketAgain) (planned isSparing 7 (counts 3 3 0) (counts 3 3 0) (hex 7 0x00380100a02804) (hex 7 0x00380100a02804)) refl ∷
     -- "21, the stop is above N, tested after 8": a stop of N + 1 with no room and with the empty sheet, and a very large one; the ticket's number comes

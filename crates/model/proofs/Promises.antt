@@ -2,9 +2,9 @@
 -- `ticketOf`, `jobUpTo`, `checkAnswer`, `planAnswer`, `chooseAnswer` and `pageAnswer` (specs/Ticket.antt, specs/Calls.antt) say what the papers' calls
 -- give for any bytes: `given` a value, or `refused` with a number. `jobUpTo t stop` is the job of the ticket t up to a stop, and all that is said of
 -- plans, sheets, choices and pages holds for every ticket and stop; fewest rounds and fetches "are then meant among sheets for the part before the
--- stop" (L5). The code is tied to these definitions by its contracts, which are equations with them for every input: `planner::check` returns `checkAnswer`, `planner::plan` returns and writes `planAnswer`, `planner::part` gives `partOf`,
--- `planner::choose` returns `chooseAnswer`, `planner::chosen_sheet` gives `sheetHanded`, `planner::plan_with_page` returns and writes `pageAnswer`
--- (crates/planner/src/lib.rt). Assumes nothing.
+-- stop" (L5). The code is tied to these definitions by its contracts, which are equations with them for every input: `planner::check` returns
+-- `checkAnswer`, `planner::plan` returns and writes `planAnswer`, `planner::part` gives `partOf`, `planner::choose` returns `chooseAnswer`,
+-- `planner::chosen_sheet` gives `sheetHanded`, `planner::plan_with_page` returns and writes `pageAnswer` (crates/planner/src/lib.rt). Assumes nothing.
 use mathlib.Core.Path.{_≡_}
 use mathlib.Core.Logic.{_↔_, _⊎_}
 use mathlib.Core.Bool.{true, cond}

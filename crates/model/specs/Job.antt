@@ -1,6 +1,6 @@
 -- What a ticket says. Document 01, "What the work covers": "Blocks are only read, each lies on one unit (disk)", and the table of
--- "Ticket and sheet": disks D, buffer slots of each disk, blocks B, the disk of each block, references N, each reference. Document 02, L5: the job up to
--- a stop.
+-- "Ticket and sheet": disks D, buffer slots of each disk, blocks B, the disk of each block, references N, each reference. Document 02, L5: the job up
+-- to a stop.
 -- Disks, blocks and positions in the reference string are numbers from 0. Assumes nothing.
 use mathlib.Core.List.{List}
 use Prim.Native.Nat.{ℕ, _≤_, _<_}

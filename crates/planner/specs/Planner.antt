@@ -20,8 +20,8 @@ planInto ticket stop short sparing = planAnswer ticket stop (length short) (leng
 abbrev pub pageInto : List ℕ → ℕ → List ℕ → List ℕ → List ℕ → Answer PlannedPage
 pageInto ticket stop short sparing page = pageAnswer ticket stop (length short) (length sparing) (length page)
 
--- Demand 2, of what a check returns: it passes a sheet exactly if that is a valid schedule of the ticket's job up to the
--- stop, and with that schedule's counts.
+-- Demand 2, of what a check returns: it passes a sheet exactly if that is a valid schedule of the ticket's job up to the stop, and with that schedule's
+-- counts.
 unfoldable pub Exact : List ℕ → ℕ → List ℕ → Checked → Type 0
 unfolding jobUpTo countsOf checkedOf
 Exact ticket stop sheet r =

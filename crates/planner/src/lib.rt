@@ -86,8 +86,8 @@ pub fn check(ticket: &[u8], stop: usize, sheet: &[u8]) -> Checked
     checking::check(read.job, sheet)
 }
 
-// The choice between two sheets for a ticket and a stop, whoever drew them up: "both are checked, the first before the second, and a failure gives the check's
-// number". What it returns, and what is promised. `chosen_sheet` hands back the sheet.
+// The choice between two sheets for a ticket and a stop, whoever drew them up: "both are checked, the first before the second, and a failure gives the
+// check's number". What it returns, and what is promised. `chosen_sheet` hands back the sheet.
 pub fn choose(ticket: &[u8], stop: usize, first: &[u8], second: &[u8]) -> Chosen
     ensures { λ r. ⌜ (let a = chooseAnswer (now (ticket .entry)) stop (now (first .entry)) (now (second .entry)) in
         (r ≡ chosenAs (returnedChoice a))
