@@ -19,7 +19,7 @@
  * compiler is trusted.
  *
  * Rules for planner_plan, planner_check and planner_choose:
- *   - Each slice is a pointer and a length in bytes. A pointer may be null only with the length 0.
+ *   - Each slice is a pointer and a length in bytes, a ticket of planner_references too. A pointer may be null only with the length 0.
  *   - Slices that a call writes must not overlap each other or any other slice of the call. Slices that it only reads may be the same memory.
  *   - The calls keep nothing, allocate nothing, and may be made from several threads at once. A planning call takes some 115 KB of stack,
  *     a check or a choice some 12 KB, and a first call some 3 KB more in the dynamic linker (measured; bench/ has the figures).
@@ -110,7 +110,7 @@ static inline size_t planner_field(const uint8_t *ticket, size_t ticket_length, 
     for (size_t bit = at; bit < at + width; bit++) {
         if (bit / 8 >= ticket_length)
             return 0;
-        value = value << 1 | (ticket[bit / 8] >> (7 - bit % 8) & 1u);
+        value = value << 1 | ((size_t)ticket[bit / 8] >> (7 - bit % 8) & 1);
     }
     return value;
 }

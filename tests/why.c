@@ -19,7 +19,7 @@ static const char *const words[] = {
     "sheet ends", "2048 rounds", "its own", "already", "every slot", "not in its buffer",
     "are left", "sheet's closing",
     "short sheet", "sparing sheet", "page",
-    "is empty", "the stop"
+    "is empty", "stop is above"
 };
 
 enum { NUMBERS = sizeof words / sizeof words[0] };

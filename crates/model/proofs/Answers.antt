@@ -430,8 +430,8 @@ table =
     -- is not read again; up to 3 neither of the two is, and it replaces block 1, the highest.
     row (plan ticketAgain) (planned isSparing 7 (counts 3 3 0) (counts 3 3 0) (hex 7 0x00380100a02800) (hex 7 0x00380100a02800)) refl ∷
     rowUpTo 3 (plan ticketAgain) (planned isSparing 7 (counts 3 3 0) (counts 3 3 0) (hex 7 0x00380100a02804) (hex 7 0x00380100a02804)) refl ∷
-    -- "21, the stop is above N, tested after 8": a stop of N + 1 with no room and with the empty sheet, and a very large one; the ticket's number comes
-    -- first, 1 and 8, with either. (A stop of N is that of every row without one.)
+    -- "21, the stop is above N, tested after 8": a stop of N + 1 with no room and with the empty sheet, and the largest of a `usize`; the ticket's number
+    -- comes first, 1 and 8, with either. (A stop of N is that of every row without one.)
     rowUpTo 2 (planInto ticketA 0 0) (number 21) refl ∷
     rowUpTo 2 (page ticketA 0 0 0) (number 21) refl ∷
     rowUpTo 2 (check ticketA []) (number 21) refl ∷
@@ -439,6 +439,8 @@ table =
     rowUpTo 18446744073709551615 (plan ticketA) (number 21) refl ∷
     rowUpTo 1 (plan ticketB) (number 21) refl ∷
     rowUpTo 1 (plan []) (number 1) refl ∷
+    rowUpTo 18446744073709551615 (plan []) (number 1) refl ∷
+    rowUpTo 18446744073709551615 (plan (hex 6 0x102008001001)) (number 8) refl ∷
     rowUpTo 2 (planInto (hex 6 0x102008001001) 0 0) (number 8) refl ∷
     rowUpTo 2 (page (hex 7 0x10200800100000) 0 0 0) (number 8) refl ∷
     rowUpTo 2 (check (hex 6 0x102008001001) []) (number 8) refl ∷

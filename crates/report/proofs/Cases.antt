@@ -1,13 +1,25 @@
--- Document 01: "For F the program prints exactly the lines below"; and G, short, and K's single byte 00, which both programs refuse with 2. Pages are
--- rows of the table in `model`. Assumes nothing.
-use mathlib.Core.Path.{_≡_, refl}
+-- What the programs print: with the stop N, what they printed before there were stops. Document 01: "For F the program prints exactly the lines below";
+-- and G, short, and K's single byte 00, which both programs refuse with 2. Pages are rows of the table in `model`. Assumes nothing.
+use mathlib.Core.Path.{_≡_, refl, ap}
+use mathlib.Core.List.{List}
+use Prim.Native.Nat.{ℕ}
 use Rattle.bits.specs.Reading.{bind, _>>=_, _>>_, give, field, refuseIf, many, closing, answer, readAll}
 use Rattle.model.specs.Job.{upTo}
 use Rattle.model.specs.Ticket.{slotsField, diskField, refField, ticketReader, ticketOf}
-use Rattle.model.specs.Calls.{stopAt, jobUpTo}
+use Rattle.model.specs.Calls.{stopAt, jobUpTo, plannedFor, pageFor}
 use Rattle.model.specs.Playing.{noneResident, load, play}
 use Rattle.model.proofs.Answers.{hex}
-use Rattle.report.specs.Report.{printed, pagePrinted}
+use Rattle.model.proofs.Promises.{whole-plan, whole-page}
+use Rattle.report.specs.Report.{linesOf, disksOf, printed, pageLines, pagePrinted}
+
+-- L5: "A stop equal to N is the old call": the plan, and the page, of all references of the ticket
+pub printed-whole : (t : List ℕ) → printed t ≡ linesOf (disksOf (ticketOf t)) (plannedFor 40962 40962 (ticketOf t))
+unfolding printed
+printed-whole t = ap (linesOf (disksOf (ticketOf t))) (whole-plan t 40962 40962)
+
+pub page-whole : (room : ℕ) (t : List ℕ) → pagePrinted room t ≡ pageLines (pageFor 40962 40962 room (ticketOf t))
+unfolding pagePrinted
+page-whole room t = ap pageLines (whole-page t 40962 40962 room)
 
 -- sparing 4, 0 2, 1 3
 pub prints-F : printed (hex 15 0x2020805009200e020180002020200c) ≡ hex 18 0x73706172696e6720340a3020320a3120330a
