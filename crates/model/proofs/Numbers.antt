@@ -147,7 +147,7 @@ pub sheet-number : (j : Job) (s : List ℕ) (n : ℕ) → scheduleRead j s ≡ r
 unfolding scheduleRead
 sheet-number j s n e = of-whole (of-sheet j (start j)) s n e
 
--- the calls
+-- the calls, for a ticket t and a stop k (`stop` is here what a reader gives)
 
 -- a number of one list or of the other
 among-left : (n : ℕ) (l m : List ℕ) → among n l ≡ true → among n (l ++ m) ≡ true
