@@ -1,6 +1,6 @@
-# "make -s plan <TICKET" plans a ticket, "make -s page <TICKET" prints its page. "make" builds the archive, the programs, the tools and the examples;
-# "make install" puts header, archive, pkg-config file and programs below PREFIX. Archive and programs are proved before they are written: that needs
-# rt on the path and minutes.
+# "make -s plan <TICKET" plans a ticket, "make -s page <TICKET" prints its page, "make -s passes <NOTE" the references of a note. "make" builds the
+# archive, the programs, the tools and the examples; "make install" puts header, archive, pkg-config file and programs below PREFIX. Archive and
+# programs are proved before they are written: that needs rt on the path and minutes.
 
 VERSION = 0.1.0
 PREFIX = /usr/local
@@ -9,7 +9,7 @@ RT = rt
 INSTALL = install
 
 ARCHIVE = target/staticlib/libplanner.a
-PROGRAMS = target/bin/plan target/bin/page
+PROGRAMS = target/bin/plan target/bin/page target/bin/passes
 PC = target/c/planner.pc
 SOURCES := crates.txt $(shell find crates -name '*.rt' -o -name '*.antt')
 
@@ -19,10 +19,10 @@ TRIAL = target/c/install
 all: $(ARCHIVE) $(PROGRAMS) tools example
 
 # What rt prints while it proves goes to standard error.
-plan page: %: target/bin/%
+plan page passes: %: target/bin/%
 	@$<
 
-.PHONY: all plan page tools example install uninstall check-install clean
+.PHONY: all plan page passes tools example install uninstall check-install clean
 
 target/staticlib/libplanner.a: $(SOURCES)
 	$(RT) staticlib planner >&2 </dev/null
@@ -50,7 +50,7 @@ uninstall:
 	rm -f $(TO)/include/planner.h $(TO)/lib/libplanner.a $(TO)/lib/pkgconfig/planner.pc $(addprefix $(TO)/bin/,$(notdir $(PROGRAMS)))
 
 # Installs into a folder of its own, builds the example from there as any C program would, and runs it and the programs: the plan of case F, the page
-# of case G.
+# of case G, the references of document 02's note.
 check-install: tools
 	rm -rf $(TRIAL)
 	$(MAKE) install DESTDIR=$(abspath $(TRIAL))
@@ -60,6 +60,7 @@ check-install: tools
 	cmp $(TRIAL)/example.out examples/expected.txt
 	for run in plan/F page/G; do \
 	    target/c/tools/ticket tools/cases/$${run#*/}.txt | $(TRIAL)$(PREFIX)/bin/$${run%/*} | cmp - crates/$${run%/*}/stdout || exit 1; done
+	$(TRIAL)$(PREFIX)/bin/passes <crates/passes/stdin | cmp - crates/passes/stdout
 	$(MAKE) uninstall DESTDIR=$(abspath $(TRIAL))
 	test -z "$$(find $(TRIAL)$(PREFIX) -type f)"
 	@echo "installed, used through pkg-config, removed"

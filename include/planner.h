@@ -70,7 +70,11 @@ enum planner_number {
     PLANNER_SHORT_ROOM = 17,
     PLANNER_SPARING_ROOM = 18,
     /* the page, in the planning call with a page. That call is for Rattle callers alone: no call of this header returns this number. */
-    PLANNER_PAGE_ROOM = 19
+    PLANNER_PAGE_ROOM = 19,
+    /* the note, in the call that makes references of a note. It is for Rattle callers alone as well: no call of this header returns these numbers. */
+    PLANNER_NOTE_MALFORMED = 22,
+    PLANNER_NOTE_PARENTHESES = 23,
+    PLANNER_NOTE_REFERENCES = 24
 };
 
 /* The sentence for a number, to be printed after it: at most 80 characters, without a full stop. It is not to be changed or freed. */
@@ -99,6 +103,9 @@ static inline const char *planner_why(uint32_t number)
     case PLANNER_SHORT_ROOM:        return "the short sheet has more bytes than its buffer";
     case PLANNER_SPARING_ROOM:      return "the sparing sheet has more bytes than its buffer";
     case PLANNER_PAGE_ROOM:         return "the page has more bytes than its buffer";
+    case PLANNER_NOTE_MALFORMED:    return "the note is malformed";
+    case PLANNER_NOTE_PARENTHESES:  return "the note has more than 16 parentheses open";
+    case PLANNER_NOTE_REFERENCES:   return "the note gives more references than 2048, or than its slice has entries";
     default:                        return "no call returns this number";
     }
 }

@@ -1,56 +1,9 @@
 # page_faults.sh - programs `cases` and `page` with a fault, each of which the test of pages must catch.
 #
-# usage: sh page_faults.sh BUILD     (BUILD has the test pages, and programs.o, answer.o and reference.o)
-# The programs are programs.c over answer.c and reference.c, changed by a sed script, in BUILD/programs.
+# usage: sh page_faults.sh BUILD     (program_faults.sh says what BUILD has)
 cd "$(dirname "$0")" || exit 2
-cc=${CC:-cc}
-build=$1
-dir=$build/programs
-missed=0
-tried=0
-
-# build SCRIPT - both programs; only the files that it changes are compiled.
-build() {
-    objects=
-    rm -rf "$dir" && mkdir -p "$dir" || exit 2
-    for file in programs.c reference/answer.c reference/reference.c; do
-        name=$(basename "$file" .c)
-        sed -E "$1" "$file" >"$dir/$name.c"
-        if cmp -s "$file" "$dir/$name.c"; then
-            objects="$objects $build/$name.o"
-        else
-            $cc -std=c11 -I. -Ireference -c "$dir/$name.c" -o "$dir/$name.o" || return 1
-            objects="$objects $dir/$name.o"
-        fi
-    done
-    # shellcheck disable=SC2086
-    $cc $objects -o "$dir/cases" && ln "$dir/cases" "$dir/page"
-}
-
-# try COUNT - the test of pages, with the programs built.
-try() {
-    timeout 60 "$build/pages" "$dir/cases" "$dir/page" 1 "$1" >"$dir/report" 2>&1
-}
-
-# fault NAME WORDS SCRIPT - the test must fail, and say these words.
-fault() {
-    tried=$((tried + 1))
-    if ! build "$3" || [ -z "$(ls "$dir"/*.o 2>/dev/null)" ]; then
-        echo "BROKEN  $1"
-        missed=$((missed + 1))
-        return
-    fi
-    try 300
-    if [ $? -ne 1 ] || ! grep -q "$2" "$dir/report"; then
-        echo "MISSED  $1"
-        missed=$((missed + 1))
-    fi
-}
-
-# Without a fault they agree; but one job does not meet all that must be met.
-build '' && try 300 || { cat "$dir/report"; echo "programs without a fault are not passed"; exit 1; }
-try 1
-[ $? -eq 1 ] && grep -q '^FAIL' "$dir/report" || { echo "one job is taken for enough"; exit 1; }
+test=pages program=page count=300
+. ./program_faults.sh
 
 another='cases gives another answer'
 in_page='/^unsigned ref_page/,/^}/'

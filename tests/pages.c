@@ -7,23 +7,18 @@
  * that is not the reference's. Every job's draws depend on the seed and its own number only, so
  * "SEED 1 FIRST" replays one job, and "SEED 0" what is tried without a job. Exit 0 only if all agree
  * and, in a run of jobs from 0 on, every number, kind of stop, letter and mark was met. */
-#define _POSIX_C_SOURCE 200809L
 #include "draw.h"
 #include "reference/answer.h"
+#include "running.h"
 
 #include <inttypes.h>
-#include <signal.h>
-#include <stdio.h>
 #include <stdlib.h>
 #include <string.h>
-#include <sys/wait.h>
-#include <unistd.h>
 
 enum { LINES = 4, NUMBERS = 22, LETTERS = 5 };
 enum { PROGRAM_JOBS = 150 };   /* the program `page` gets the tickets of so many jobs */
 enum { LONGER = 100000 };      /* and so many bytes past a ticket */
 enum { NO_JOB = -1 };          /* what is tried without a job */
-enum { WAIT_SECONDS = 60 };        /* seconds to wait for an answer */
 
 enum kind { NONE, BETWEEN, WHOLE, ABOVE, KINDS };      /* stops: 0, in between, N, above N */
 
@@ -34,7 +29,6 @@ static struct {
     const char *cases, *page;
     uint64_t seed, count, first;
     int64_t job;
-    pid_t program;             /* the one that is running, or 0 */
     unsigned long met[2][NUMBERS];             /* numbers, by cases and by page */
     unsigned long stops[KINDS];                /* of cases, where the answer is 0 or 21 */
     unsigned long letter[LETTERS], mark[2];    /* on the pages of cases */
@@ -42,33 +36,13 @@ static struct {
 
 /* ---- Reports ---- */
 
-/* Says how to replay it, and ends the run. */
-static void fail(void)
+static void say_replay(void)
 {
     printf("replay: pages %s %s %" PRIu64, run.cases, run.page, run.seed);
     if (run.job == NO_JOB)
         printf(" 0\n");
     else
         printf(" 1 %" PRId64 "\n", run.job);
-    fflush(stdout);
-    if (run.program > 0)
-        kill(run.program, SIGKILL);
-    _exit(1);
-}
-
-static void too_late(int cause)
-{
-    (void)cause;
-    printf("STOPPED: no answer in %d seconds\n", WAIT_SECONDS);
-    fail();
-}
-
-static void must(bool good, const char *what)
-{
-    if (good)
-        return;
-    perror(what);
-    exit(2);
 }
 
 /* A line of a page, as far as it goes. */
@@ -241,6 +215,11 @@ static void write_line(const struct asked *a, FILE *file)
     fprintf(file, "%s\n", call);
 }
 
+static void write_lines(FILE *file)
+{
+    each_job(write_line, file);
+}
+
 static enum kind kind_of(const struct asked *a)
 {
     unsigned references = ref_references(a->ticket.at, a->ticket.len);
@@ -267,98 +246,26 @@ static void count(const struct asked *a, const char *text)
 
 static void compare_line(const struct asked *a, FILE *file)
 {
-    static char call[ANSWER_LINE], parts[ANSWER_LINE], text[ANSWER_LINE], have[ANSWER_LINE];
-    size_t n = (size_t)(put_call(call, a) - call);
+    static char call[ANSWER_LINE], parts[ANSWER_LINE], text[ANSWER_LINE];
+    const char *have;
 
+    put_call(call, a);
     strcpy(parts, call);
     if (!answer(parts, text))
         exit(2);
     count(a, text);
-    alarm(WAIT_SECONDS);
-    if (fgets(have, sizeof have, file) == NULL) {
-        printf("DISAGREE: cases ends without an answer\n  %s\n", call);
-        fail();
-    }
-    have[strcspn(have, "\n")] = '\0';
-    if (strncmp(have, call, n) != 0 || strncmp(have + n, " = ", 3) != 0) {
-        printf("DISAGREE: cases does not repeat the call\n  %s\n  cases: %.200s\n", call, have);
-        fail();
-    }
-    if (strcmp(have + n + 3, text) != 0) {
+    have = next_answer(file, call);
+    if (strcmp(have, text) != 0) {
         printf("DISAGREE: cases gives another answer\n");
-        print_answers(have + n + 3, text);
+        print_answers(have, text);
         printf("  %s\n", call);
         fail();
     }
 }
 
-/* Starts a program with these as its standard input and output; it gets none of the pipes' ends
- * beside. */
-static pid_t start(const char *path, int in, int out, const int *ends, unsigned how_many)
+static void compare_lines(FILE *file)
 {
-    pid_t child;
-
-    fflush(NULL);
-    child = fork();
-    must(child >= 0, "fork");
-    if (child > 0)
-        return child;
-    if (dup2(in, 0) < 0 || dup2(out, 1) < 0)
-        _exit(126);
-    for (unsigned k = 0; k < how_many; k++)
-        close(ends[k]);
-    execl(path, path, (char *)NULL);
-    perror(path);
-    _exit(127);
-}
-
-/* Waits for a program, which must end by itself and with status 0. */
-static void end(pid_t child, const char *name)
-{
-    int status;
-
-    alarm(WAIT_SECONDS);
-    must(waitpid(child, &status, 0) == child, "waitpid");
-    if (status != 0) {
-        printf("DISAGREE: %s ends %s %d\n", name, WIFSIGNALED(status) ? "by signal" : "with status",
-               WIFSIGNALED(status) ? WTERMSIG(status) : WEXITSTATUS(status));
-        fail();
-    }
-    alarm(0);
-}
-
-/* One process has all lines: another one writes them, and this one reads the answers. */
-static void try_cases(void)
-{
-    int ends[4], *to = ends, *from = ends + 2;
-    pid_t writer;
-    FILE *file;
-
-    must(pipe(to) == 0 && pipe(from) == 0, "pipe");
-    run.program = start(run.cases, to[0], from[1], ends, 4);
-    writer = fork();
-    must(writer >= 0, "fork");
-    close(to[0]);
-    close(from[1]);
-    if (writer == 0) {
-        close(from[0]);
-        file = fdopen(to[1], "w");
-        must(file != NULL, "fdopen");
-        each_job(write_line, file);
-        _exit(fclose(file) != 0);
-    }
-    close(to[1]);
-    file = fdopen(from[0], "r");
-    must(file != NULL, "fdopen");
     each_job(compare_line, file);
-    if (fgetc(file) != EOF) {
-        printf("DISAGREE: cases writes more than was asked\n");
-        fail();
-    }
-    fclose(file);
-    end(run.program, "cases");
-    end(writer, "the writer of the lines");
-    run.program = 0;
 }
 
 /* ---- The program `page` ---- */
@@ -375,34 +282,11 @@ static size_t want_text(struct bytes ticket, uint8_t *text)
     return number == 0 ? paged.length : (size_t)sprintf((char *)text, "refused %u\n", number);
 }
 
-/* Its whole output, as far as there is room; gives the length. Its input comes from a file, so that
- * it need not be read to the end. */
-static size_t print_page(struct bytes ticket, uint8_t *text, size_t room)
-{
-    FILE *input = tmpfile();
-    size_t len = 0;
-    ssize_t got;
-    int from[2];
-
-    must(input != NULL && fwrite(ticket.at, 1, ticket.len, input) == ticket.len, "a ticket's file");
-    must(fflush(input) == 0 && lseek(fileno(input), 0, SEEK_SET) == 0, "a ticket's file");
-    must(pipe(from) == 0, "pipe");
-    alarm(WAIT_SECONDS);
-    run.program = start(run.page, fileno(input), from[1], from, 2);
-    close(from[1]);
-    while (len < room && (got = read(from[0], text + len, room - len)) > 0)
-        len += (size_t)got;
-    close(from[0]);
-    end(run.program, "page");
-    run.program = 0;
-    fclose(input);
-    return len;
-}
-
 static void try_page(struct bytes ticket)
 {
     static uint8_t want[REF_PAGE], have[REF_PAGE + REF_LINE];
-    size_t m = want_text(ticket, want), n = print_page(ticket, have, sizeof have), at = 0;
+    size_t m = want_text(ticket, want), at = 0;
+    size_t n = output_of(run.page, "page", ticket.at, ticket.len, have, sizeof have);
 
     if (n == m && memcmp(have, want, n) == 0)
         return;
@@ -495,8 +379,8 @@ int main(int argc, char **argv)
     run.seed = argc > 3 ? strtoull(argv[3], NULL, 10) : 1;
     run.count = argc > 4 ? strtoull(argv[4], NULL, 10) : 500;
     run.first = argc > 5 ? strtoull(argv[5], NULL, 10) : 0;
-    signal(SIGALRM, too_late);
-    try_cases();
+    begin_running(say_replay);
+    try_lines(run.cases, write_lines, compare_lines);
     try_program();
     printf("%" PRIu64 " jobs agree (seed %" PRIu64 "); numbers met:\n", run.count, run.seed);
     all = all_met();

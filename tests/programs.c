@@ -1,11 +1,14 @@
-/* programs.c - stand-ins for the programs `cases` and `page`, for page_faults.sh: the reference answers.
+/* programs.c - stand-ins for the programs `cases`, `page` and `passes`, for page_faults.sh and
+ * note_faults.sh: the reference answers.
  *
- * usage: cases < LINES, or page < TICKET: which one it is, its own name says. */
+ * usage: cases < LINES, page < TICKET, or passes < NOTE: which one it is, its own name says. */
 #include "reference/answer.h"
 #include "reference/reference.h"
 
 #include <stdio.h>
 #include <string.h>
+
+enum { MOST_NOTE = 1048576 };  /* bytes of a note that are read */
 
 /* Lines that are no calls are written as they are. */
 static void cases(void)
@@ -37,12 +40,36 @@ static void page(void)
         printf("refused %u\n", number);
 }
 
+/* One line feed at the end is not part of the note. A longer input is cut. */
+static void passes(void)
+{
+    static uint8_t text[MOST_NOTE];
+    static uint16_t reference[REF_REFERENCES];
+    size_t n = fread(text, 1, sizeof text, stdin), count;
+    unsigned number;
+
+    if (n > 0 && text[n - 1] == '\n')
+        n--;
+    number = ref_note(text, n, reference, REF_REFERENCES, &count);
+    if (number != 0)
+        printf("refused %u\n", number);
+    for (size_t k = 0; k < count; k++)
+        printf("%u%c", reference[k], k + 1 < count ? ' ' : '\n');
+}
+
+static bool is_called(const char *path, const char *name)
+{
+    size_t length = strlen(path), own = strlen(name);
+
+    return length >= own && strcmp(path + length - own, name) == 0;
+}
+
 int main(int argc, char **argv)
 {
-    size_t length = argc > 0 ? strlen(argv[0]) : 0;
-
-    if (length >= 4 && strcmp(argv[0] + length - 4, "page") == 0)
+    if (argc > 0 && is_called(argv[0], "page"))
         page();
+    else if (argc > 0 && is_called(argv[0], "passes"))
+        passes();
     else
         cases();
     return 0;

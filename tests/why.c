@@ -19,7 +19,8 @@ static const char *const words[] = {
     "sheet ends", "2048 rounds", "its own", "already", "every slot", "not in its buffer",
     "are left", "sheet's closing",
     "short sheet", "sparing sheet", "page",
-    "is empty", "stop is above"
+    "is empty", "stop is above",
+    "malformed", "parentheses", "slice has entries"
 };
 
 enum { NUMBERS = sizeof words / sizeof words[0] };

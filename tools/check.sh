@@ -139,6 +139,92 @@ texts()
     run ticket "$out/ticket"
 }
 
+# note TITLE NOTE [LINE]...: a note for eight blocks, and lines after it, made into a ticket and back.
+note()
+{
+    echo "== $1"
+    printf 'disk 0 slots 3 blocks 0-7\npasses %s\n' "$2" >"$out/text"
+    shift 2
+    for line; do
+        echo "$line" >>"$out/text"
+    done
+    sed '1d;s/^/| /' "$out/text"
+    run eval 'ticket "$out/text" "$out/ticket" && ticket -d "$out/ticket" | tail -n +2'
+}
+
+# 2,048 references with all the parentheses and counts that they can have: 147,453 characters.
+longest_note()
+{
+    awk 'BEGIN {
+        for (k = 0; k < 16; k++) { opened = opened "("; closed = closed ")*1" }
+        for (k = 0; k < 2048; k++) printf "%s%s511*1%s", k ? " | " : "", opened, closed
+    }'
+}
+
+# Passes: notes that are good, the order of the numbers 22 to 24, and then 6 and 7.
+passes()
+{
+    echo '== a job with passes and reads'
+    run eval 'ticket cases/passes.txt "$out/ticket" && ticket -d "$out/ticket"'
+    note 'a block' 7
+    note 'items and counts' '1 2*3 (4 5)*2'
+    note 'two sides' '1 2*3 | (4 5)*2'
+    note 'three sides, grouped to the left' '1 2 | 3 4 5 6 | 7'
+    note 'the same grouped to the right' '1 2 | (3 4 5 6 | 7)'
+    note 'sixteen parentheses' "((((((((((((((((1 | 2))))))))))))))))*2"
+    echo '== blanks around a note, a comment, both kinds of line ends, and none at the end'
+    printf 'disk 0 slots 3 blocks 0-7\n  passes \t 1 2 \t\r\npasses 3#4\npasses 5 # 6\nread 0\npasses (6)*2' >"$out/text"
+    run eval 'ticket <"$out/text" | ticket -d'
+    echo '== 2048 references'
+    run eval 'printf "disk 0 slots 1 blocks 0\npasses (0*1024 | 0*1023) 0\n" | ticket | wc -c | tr -d " "'
+    echo '== the longest note, and an item more that is none'
+    run eval '{ printf "disk 0 slots 1 blocks 0-511\npasses "; longest_note; } | ticket | wc -c | tr -d " "'
+    run eval '{ printf "disk 0 slots 1 blocks 0-511\npasses "; longest_note; echo " | x"; } | ticket'
+    note '22: no note' ''
+    note '22: a comment alone' '# 1'
+    note '22: a word' 'one'
+    note '22: a word after an item' '1 two'
+    note '22: two spaces' '1  2'
+    note '22: a tab' "$(printf '1\t2')"
+    echo '== 22: a character that is not printed'
+    run eval 'printf "disk 0 slots 1 blocks 0\npasses 0 \303\251\n" | ticket'
+    note '22: block 512' '1 512'
+    note '22: a block of four digits' '1000'
+    note '22: zeros in front' '1 07'
+    note '22: a count of 0' '1*0'
+    note '22: a count of 2049' '1*2049'
+    note '22: zeros in front of a count' '1*02'
+    note '22: no count' '1*'
+    note '22: a space before a count' '1* 2'
+    note '22: two counts' '1*2*3'
+    note '22: a bar without spaces' '1|2'
+    note '22: a bar without a space after it' '1 |2'
+    note '22: a bar at the end' '1 |'
+    note '22: an empty side' '1 | | 2'
+    note '22: an empty pair of parentheses' '1 ()'
+    note '22: a parenthesis not closed' '((1 2)'
+    note '22: a parenthesis not opened' '(1 2))'
+    note '22: no space between items' '(1)2'
+    note '22: no space before a parenthesis' '1(2)'
+    note '23: seventeen parentheses' "(((((((((((((((((1)))))))))))))))))"
+    note '23: before 22' "((((((((((((((((("
+    note '22: where both fall on one character' "((((((((((((((((1("
+    note '24: 2049 references' '1*2048 2'
+    note '24: a number of references past all bits' '((((((1*2048)*2048)*2048)*2048)*2048)*2048)*2048'
+    note '22: before 24' '1*2048 2*2048 x'
+    note '22: before 24, at the end' '1*2048 2*2048 |'
+    note '7: a block that is not there' '1 2 | 8'
+    note '7: before 6, by the order of the references' '9 1*2047' 'read 1'
+    note '22: before 7' '9 x'
+    note '24: before 7' '9 1*2048'
+    note '6: a note and a read' '1*2048' 'read 2'
+    note '6: two notes' '1*2000' 'passes 2*49'
+    note '6: before 7' '1*2048' 'passes 9'
+    text 'passes before any disk' 'passes 0'
+    text 'a disk after passes' "$(printf 'disk 0 slots 1 blocks 0\npasses 0\ndisk 1 slots 1')"
+    text 'no blank after the word' "$(printf 'disk 0 slots 1 blocks 0\npasses(0)')"
+}
+
 # Damaged tickets, in the order of the numbers 1 to 8.
 tickets()
 {
@@ -234,12 +320,15 @@ vector()
 A=$(vector A 1) B=$(vector B 1) F=$(vector F 1) G=$(vector G 1) G_P_MIN=$(vector G 2) G_P_CON=$(vector G 3)
 G_TO_13=0058010220140a809032038090140703c0c0
 bad=0
-for group in cases good texts tickets sheets stops usage; do
+for group in cases good texts passes tickets sheets stops usage; do
     $group >"$out/$group.out"
     diff -u "expected/$group.out" "$out/$group.out" || bad=1
 done
 for number in $(seq 1 16) 20 21; do
     grep -q "^refused $number: " "$out"/*.out || { echo "number $number is not met"; bad=1; }
+done
+for number in 22 23 24; do
+    grep -q "^line [0-9]*: refused $number: " "$out"/*.out || { echo "number $number is not met"; bad=1; }
 done
 [ $bad -eq 0 ] && echo 'check: all as expected'
 exit $bad

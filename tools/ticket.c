@@ -1,5 +1,6 @@
 /* ticket.c - a job written as text made into a ticket, and back; README.md has the text format. */
 #include "job.h"
+#include "note.h"
 
 #include <stdarg.h>
 #include <stdio.h>
@@ -19,11 +20,11 @@ struct text {
     int next;                  /* the character not taken yet */
     unsigned line;             /* counted from 1 */
     unsigned placing_line;     /* the last line that placed blocks */
-    bool reading;              /* a read line has been met */
+    bool reading;              /* a read or passes line has been met */
     char word[WORD_ROOM];
 };
 
-/* Ends the program; number 0 if none of document 01's fits. */
+/* Ends the program; number 0 if none of the papers' fits. */
 static _Noreturn void fail(unsigned line, unsigned number, const char *why, ...)
 {
     va_list args;
@@ -48,16 +49,22 @@ static bool ends_line(int c)
     return c == '\n' || c == EOF;
 }
 
-/* Takes the next word of this line; false if there is none. */
-static bool next_word(struct text *t)
+/* Goes on to the next character that is no blank and in no comment. */
+static void skip_blanks(struct text *t)
 {
-    size_t n = 0;
-
     while (is_blank(t->next))
         t->next = getc(t->from);
     if (t->next == '#')
         while (!ends_line(t->next))
             t->next = getc(t->from);
+}
+
+/* Takes the next word of this line; false if there is none. */
+static bool next_word(struct text *t)
+{
+    size_t n = 0;
+
+    skip_blanks(t);
     while (!is_blank(t->next) && !ends_line(t->next) && t->next != '#') {
         if (n == WORD_ROOM - 1)
             fail(t->line, 0, "a word has more than %d characters", WORD_ROOM - 1);
@@ -177,18 +184,64 @@ static void end_placing(const struct text *t, const struct job *job)
                  job->blocks - 1);
 }
 
+/* One more reference, to the block in the word. */
+static void add_reference(const struct text *t, struct job *job, unsigned b)
+{
+    if (job->references == MAX_REFERENCES)
+        fail(t->line, 6, "a job has at most %d references", MAX_REFERENCES);
+    if (b >= job->blocks)
+        fail(t->line, 7, "a read of block '%s', and the last block is %u", t->word,
+             job->blocks - 1);
+    job->reference[job->references++] = b;
+}
+
 /* The numbers after "read". */
 static void references(struct text *t, struct job *job)
 {
     while (next_word(t)) {
         unsigned b = number(t);
 
-        if (job->references == MAX_REFERENCES)
-            fail(t->line, 6, "a job has at most %d references", MAX_REFERENCES);
-        if (b >= job->blocks)
-            fail(t->line, 7, "a read of block '%s', and the last block is %u", t->word,
-                 job->blocks - 1);
-        job->reference[job->references++] = b;
+        add_reference(t, job, b);
+    }
+}
+
+/* The rest of the line, without blanks at its ends and without a comment; gives its length. */
+static size_t rest_of_line(struct text *t, char **rest)
+{
+    size_t n = 0, room = 0;
+
+    *rest = NULL;
+    for (skip_blanks(t); !ends_line(t->next) && t->next != '#'; t->next = getc(t->from)) {
+        if (n == room) {
+            room = 2 * room + 256;
+            *rest = realloc(*rest, room);
+            if (*rest == NULL) {
+                perror("a note");
+                exit(BAD_USAGE);
+            }
+        }
+        (*rest)[n++] = (char)t->next;
+    }
+    skip_blanks(t);
+    while (n > 0 && is_blank((*rest)[n - 1]))
+        n--;
+    return n;
+}
+
+/* The note after "passes". It is read by itself, and then its references are added. */
+static void passes(struct text *t, struct job *job)
+{
+    static struct note note;
+    struct refusal refusal;
+    char *rest;
+    size_t length = rest_of_line(t, &rest);
+
+    if (!read_note(rest, length, &note, &refusal))
+        fail(t->line, refusal.number, "%s", refusal.why);
+    free(rest);
+    for (unsigned i = 0; i < note.references; i++) {
+        snprintf(t->word, sizeof t->word, "%u", note.reference[i]);
+        add_reference(t, job, note.reference[i]);
     }
 }
 
@@ -196,18 +249,22 @@ static void references(struct text *t, struct job *job)
 static void statement(struct text *t, struct job *job)
 {
     bool is_disk = strcmp(t->word, "disk") == 0, is_blocks = strcmp(t->word, "blocks") == 0;
+    bool is_read = strcmp(t->word, "read") == 0, is_passes = strcmp(t->word, "passes") == 0;
 
-    if (strcmp(t->word, "read") == 0) {
+    if (is_read || is_passes) {
         if (!t->reading)
             end_placing(t, job);
         t->reading = true;
-        references(t, job);
+        if (is_read)
+            references(t, job);
+        else
+            passes(t, job);
         return;
     }
     if (!is_disk && !is_blocks)
-        fail(t->line, 0, "a line starts with disk, blocks or read, not '%s'", t->word);
+        fail(t->line, 0, "a line starts with disk, blocks, read or passes, not '%s'", t->word);
     if (t->reading)
-        fail(t->line, 0, "'%s' is too late, after the first read", t->word);
+        fail(t->line, 0, "'%s' is too late, after the first read or passes", t->word);
     if (is_disk)
         disk(t, job);
     else

@@ -7,6 +7,7 @@
 #include <string.h>
 
 enum { FILL = 0xa5, GUARD = 8 };
+enum { ENTRY = 0xa5a5, MOST_ROOM = 4096 };     /* of a note: an entry, and the most that are lent */
 
 struct bytes {
     uint8_t *at;
@@ -115,7 +116,7 @@ static char *put_planned(char *to, const struct ref_planned *p, const uint8_t *p
     return put_hex(to + sprintf(to, " | "), p_con, p->sheet_length[REF_P_CON]);
 }
 
-/* A ticket and a stop. */
+/* A ticket and a stop; of a call for a note, its text and its room. */
 struct part {
     struct bytes ticket;
     size_t stop;
@@ -180,6 +181,29 @@ static void answer_choose(struct part part, struct bytes first, struct bytes sec
     }
 }
 
+/* Entries past the count, and those of the guard, must not change. */
+static void answer_note(struct bytes text, size_t room, char *to)
+{
+    static uint16_t lent[MOST_ROOM + GUARD];
+    size_t count;
+    unsigned number;
+
+    room = room < MOST_ROOM ? room : MOST_ROOM;
+    for (size_t k = 0; k < MOST_ROOM + GUARD; k++)
+        lent[k] = ENTRY;
+    number = ref_note(text.at, text.len, lent, room, &count);
+    to += sprintf(to, "%u", number);
+    if (number == 0)
+        to += sprintf(to, " %zu", count);
+    for (size_t k = 0; k < count; k++)
+        to += sprintf(to, " %u", lent[k]);
+    for (size_t k = count; k < MOST_ROOM + GUARD; k++)
+        if (lent[k] != ENTRY) {
+            sprintf(to, " and entries past %zu of a slice of %zu changed", count, room);
+            return;
+        }
+}
+
 /* A stop or a room: a decimal number of at most 64 bits. */
 static size_t number_of(const char *word)
 {
@@ -212,6 +236,8 @@ static bool answer_words(char **word, unsigned words, char *to)
         answer_choose(part, sheet, other, to);
         free(sheet.at);
         free(other.at);
+    } else if (strcmp(word[0], "note") == 0 && words == 3) {
+        answer_note(part.ticket, part.stop, to);
     } else {
         known = false;
     }
@@ -227,5 +253,5 @@ bool answer(char *call, char *to)
 
     for (char *w = strtok(call, " "); w != NULL && words < MOST; w = strtok(NULL, " "))
         word[words++] = w;
-    return words >= 4 && answer_words(word, words, to);
+    return words >= 3 && answer_words(word, words, to);
 }

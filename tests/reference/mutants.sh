@@ -1,30 +1,31 @@
 # mutants.sh - wrong planners, each of which the vectors or the search must catch.
 #
-# usage: sh mutants.sh BUILD     (BUILD has vectors.o, answer.o, exhaustive.o and chance.o)
-# A mutant is a copy of reference.c changed by a sed script, in BUILD/mutant.
+# usage: sh mutants.sh BUILD     (BUILD has vectors.o, answer.o, exhaustive.o, small_notes.o, chance.o, reference.o and note.o)
+# A mutant is a copy of reference.c, or of note.c, changed by a sed script, in BUILD/mutant.
 cd "$(dirname "$0")" || exit 2
 cc=${CC:-cc}
 build=$1
 dir=$build/mutant
 missed=0
 tried=0
-cat ../vectors/L5.txt ../vectors/edges.txt ../vectors/longest.txt >"$build/all.txt" || exit 2
+cat ../vectors/L6.txt ../vectors/edges.txt ../vectors/longest.txt >"$build/all.txt" || exit 2
+grep -h '^note' ../vectors/L6.txt ../vectors/edges.txt >"$build/notes.txt" || exit 2
 
-# trial NAME SCRIPT TEST WORDS ARGUMENT... - the changed copy must differ and compile, and the test
-# must say what is wrong with it: a crash would not do.
+# trial SOURCE OTHER NAME SCRIPT TEST WORDS ARGUMENT... - the changed copy of SOURCE.c, linked with OTHER, must differ and compile, and
+# the test must say what is wrong with it: a crash would not do.
 trial() {
-    name=$1 script=$2 test=$3 words=$4
-    shift 4
+    source=$1 other=$2 name=$3 script=$4 test=$5 words=$6
+    shift 6
     tried=$((tried + 1))
     rm -rf "$dir" && mkdir -p "$dir"
-    sed -E "$script" reference.c >"$dir/reference.c"
-    if cmp -s reference.c "$dir/reference.c" ||
-        ! $cc -std=c11 -I. -c "$dir/reference.c" -o "$dir/reference.o"; then
+    sed -E "$script" "$source.c" >"$dir/$source.c"
+    if cmp -s "$source.c" "$dir/$source.c" ||
+        ! $cc -std=c11 -I. -c "$dir/$source.c" -o "$dir/$source.o"; then
         echo "BROKEN  $name"
         missed=$((missed + 1))
         return
     fi
-    $cc "$build/$test.o" "$build/answer.o" "$build/chance.o" "$dir/reference.o" -o "$dir/$test" || exit 2
+    $cc "$build/$test.o" "$build/answer.o" "$build/chance.o" "$build/$other.o" "$dir/$source.o" -o "$dir/$test" || exit 2
     timeout 60 "$dir/$test" "$@" >"$dir/report"
     if [ $? -ne 1 ] || ! grep -q "$words" "$dir/report"; then
         echo "MISSED  $name ($test)"
@@ -34,12 +35,22 @@ trial() {
 
 # mutant NAME SCRIPT - a wrong reference that the vectors must catch.
 mutant() {
-    trial "$1" "$2" vectors disagrees "$build/all.txt"
+    trial reference note "$1" "$2" vectors disagrees "$build/all.txt"
 }
 
 # searched NAME SCRIPT WORDS - a wrong reference that the search must catch, with these words.
 searched() {
-    trial "$1" "$2" exhaustive "$3" 1 10000
+    trial reference note "$1" "$2" exhaustive "$3" 1 10000
+}
+
+# misread NAME SCRIPT - a wrong reader of notes that the vectors must catch.
+misread() {
+    trial note reference "$1" "$2" vectors disagrees "$build/notes.txt"
+}
+
+# found NAME SCRIPT WORDS - a wrong reader of notes that the search of short texts must catch, with these words.
+found() {
+    trial note reference "$1" "$2" small_notes "$3"
 }
 
 on_demand='if (view[d].u != REF_NONE \&\& r->l.distance[view[d].u] != before) view[d].u = REF_NONE;'
@@ -461,6 +472,197 @@ searched 'by disk and then by round' "$by_disk" 'ANOTHER PAGE'
 searched 'rounds from 0' "$(round_as 'round - 1')" 'ANOTHER PAGE'
 searched 'the page of P-CON always' "$of_p_con" 'ANOTHER PAGE'
 searched 'the page of P-MIN always' "$of_p_min" 'ANOTHER PAGE'
+
+# Scripts about notes
+in_append='/^static void append/,/^}/'
+in_repeat='/^static void repeat/,/^}/'
+in_mix='/^static void mix/,/^}/'
+in_number='/^static bool read_number/,/^}/'
+in_part='/^static bool read_part/,/^}/'
+in_item='/^static bool read_item/,/^}/'
+in_side='/^static bool read_side/,/^}/'
+in_note='/^static bool read_note\(struct text \*t, struct string \*out\)$/,/^}/'
+in_text='/^void ref_read_note/,/^}/'
+in_call='/^unsigned ref_note/,/^}/'
+right_first="/^    while \\(l </,/^    \\}/{s/left->/LEFT->/g;s/right->/left->/g;s/LEFT->/right->/g}"
+to_right="${in_note}s/read_side\\(t, &right\\)/read_note(t, \\&right)/"
+zeros='s/ \|\| \(!first && \*value == 0\)//'
+deeper="${in_part}s/t->open == t->most/t->open > t->most/"
+not_so_deep="${in_part}s/t->open == t->most/t->open + 1 >= t->most/"
+never_closed="${in_part}s/^        t->open--;/        ;/"
+deep_first="s/^    t->number = number;/    t->number = number == 22 \\&\\& character(t, 0) == '(' \\&\\& t->open == t->most ? 23 : number;/"
+next_count="t->next++; if (!read_number(t, 1, REF_REFERENCES, \\&times)) return false;"
+two_counts="${in_item}s/^    if \\(character\\(t, 0\\) != '\\*'\\)/    for (; character(t, 0) == '*'; repeat(out, times)) { $next_count }\\n&/"
+two_spaces="${in_side}s/^        t->next\\+\\+;/        while (character(t, 0) == ' ') t->next++;/"
+maybe_space="(character(t, 0) == ' ' \\&\\& !take(t, ' '))"
+unspaced_bar="${in_note}{s/^    while .*/    while (character(t, 0) == ' ' || character(t, 0) == '|') {/;s/!take\\(t, ' '\\) \\|\\| !take/$maybe_space || !take/}"
+too_many='if (s->count * times > REF_REFERENCES) { s->count = TOO_MANY; return; }'
+each_twice="$in_repeat{s/^    for .*/    $too_many\\n    for (size_t k = 0; k < once.count * times; k++)/
+    s/^        append.*/        s->reference[k] = once.reference[k \\/ times];\\n    s->count = once.count * times;/}"
+
+# counted_in BITS - the script that has so many bits of a product or a sum of references kept.
+counted_in() {
+    bits="\\& (((__uint128_t)1 << $1) - 1)"
+    few='if (few > REF_REFERENCES || s->count > few) { s->count = few; return; }'
+    printf '%s\n' "${in_append}s/^    if .*/    size_t few = (s->count + more->count) $bits;\\n    $few\\n&/" \
+        "${in_repeat}s/^    for .*/    size_t few = (s->count * (__uint128_t)times) $bits;\\n    $few\\n&/" \
+        "${in_mix}s/^    if .left->.*/    struct string *s = left;\\n    size_t few = (s->count + right->count) $bits;\\n    $few\\n&/"
+}
+
+# read_as_space CODE - the script that has this byte read as a space.
+read_as_space() {
+    printf "s/^    return t->next .*/    int c = t->next + after < t->len ? t->at[t->next + after] : END;\\\\n    return c == %s ? ' ' : c;/" "$1"
+}
+
+# without_last CONDITION - the script that has the last character left out where this holds.
+without_last() {
+    printf '%ss/^    struct string all;/&\\n    if (n > 0 \\&\\& %s) t.len = --n;/' "$in_text" "$1"
+}
+
+# refused_as EXPRESSION - the script that has this number returned for a note, where `number` is the right one.
+refused_as() {
+    printf '%ss/^    if \\(noted.number != 0\\)$/    if (noted.number != 0) return %s;\\n&/' "$in_call" "$1"
+}
+
+# What a note means
+misread 'the right side first' "$right_first"
+misread 'the rest of the longer side dropped' "${in_mix}s/left->count \\|\\| r </left->count \\&\\& r </"
+misread 'the rest of a longer left side dropped' "${in_mix}s/l < left->count \\|\\| r </r </"
+misread 'the rest of a longer right side dropped' "${in_mix}s/ \\|\\| r < right->count\\)/)/"
+misread 'one side after the other' "${in_note}s/mix\\(out/append(out/"
+misread 'two from the left and one from the right' \
+    "${in_mix}s/^(            )(mixed.* = left->.*)/\\1for (unsigned k = 0; k < 2 \\&\\& l < left->count; k++) \\2/"
+misread 'grouped to the right' "$to_right"
+misread 'each reference repeated in its place' "$each_twice"
+misread 'one time more than the count' "${in_repeat}s/k = 1; k < times/k = 0; k < times/"
+misread 'one time less than the count' "${in_repeat}s/k = 1; k < times/k = 2; k < times/"
+misread 'counts not looked at' "${in_item}s/^    repeat\\(out, times\\);/    ;/"
+misread 'the last eight bits of a block' 's/\(uint16_t\)block/(uint8_t)block/'
+misread 'the last item of a side left out' "${in_side}s/^        append/        if (character(t, 0) == ' ') append/"
+misread 'blocks from 1' 's/\(uint16_t\)block/(uint16_t)(block + 1)/'
+
+# Numbers
+misread '512 taken' 's/REF_BLOCKS - 1, &block/REF_BLOCKS, \&block/'
+misread '511 refused' 's/REF_BLOCKS - 1, &block/REF_BLOCKS - 2, \&block/'
+misread 'blocks of any size taken' 's/REF_BLOCKS - 1, &block/99999, \&block/'
+misread '2049 taken as a count' "${in_item}s/1, REF_REFERENCES, /1, REF_REFERENCES + 1, /"
+misread '2048 refused as a count' "${in_item}s/1, REF_REFERENCES, /1, REF_REFERENCES - 1, /"
+misread 'counts of any size taken' "${in_item}s/1, REF_REFERENCES, /1, 99999999, /"
+misread '0 taken as a count' "${in_item}s/1, REF_REFERENCES, /0, REF_REFERENCES, /"
+misread 'zeros in front taken' "$zeros"
+misread 'zeros in front of a count taken' \
+    's/longer < least \|\|/(longer < least \&\& !is_digit(character(t, 1))) ||/;s/!first && \*value == 0/!first \&\& *value == 0 \&\& least == 0/'
+misread '0 refused as a block' "${in_part}s/read_number\\(t, 0, /read_number(t, 1, /"
+misread '00 taken' 's/\(!first && \*value == 0\)/(!first \&\& *value == 0 \&\& longer != 0)/'
+misread 'a number without digits taken as 0' "${in_number}s/^        return refuse\\(t, 22\\);/        return least == 0 || refuse(t, 22);/"
+misread 'a count without digits taken as 1' "${in_number}s/^        return refuse\\(t, 22\\);/        return (*value = least) == 1 || refuse(t, 22);/"
+misread 'a colon is a digit' "s/c <= '9'/c <= ':'/"
+misread 'a slash is a digit' "s/c >= '0'/c >= '\\/'/;s/unsigned longer = /unsigned longer = character(t, 0) < '0' ? 1 : /"
+
+# Spaces and bars
+misread 'two spaces taken' "$two_spaces"
+misread 'a space in front taken' "${in_text}s/^    struct string all;/&\\n    if (n > 0 \\&\\& text[0] == ' ') t.next++;/"
+misread 'a space at the end taken' "$(without_last "text[n - 1] == ' '")"
+misread 'a line feed at the end taken' "$(without_last 'text[n - 1] == 10')"
+misread 'a zero byte ends the text' "${in_text}s/^    struct string all;/&\\n    for (size_t k = 0; k < n; k++) if (text[k] == 0) t.len = n = k;/"
+misread 'a tab is a space' "$(read_as_space 9)"
+misread 'a line feed is a space' "$(read_as_space 10)"
+misread 'the last seven bits of a character' 's/ \? t->at\[t->next \+ after\] : END/ ? t->at[t->next + after] \& 127 : END/'
+misread 'a space after an opening parenthesis taken' "${in_part}s/^        if \\(!read_note/        if (character(t, 0) == ' ') t->next++;\\n&/"
+misread 'a space before a closing parenthesis taken' \
+    "${in_side}s/character\\(t, 1\\) != '\\|'/& \\&\\& character(t, 1) != ')'/
+    ${in_note}s/^    while .*/    while (character(t, 0) == ' ' \\&\\& character(t, 1) == '|') {/
+    ${in_part}s/!take\\(t, '\\)'\\)/$maybe_space || &/"
+misread 'no space before a bar taken' "$unspaced_bar"
+misread 'no space after a bar taken' "${in_note}s/!take\\(t, ' '\\) \\|\\| !read_side/$maybe_space || !read_side/"
+misread 'two spaces before a bar taken' \
+    "${in_side}s/^    while \\((.*)\\) \\{/    while (character(t, 1) == ' ' \\&\\& character(t, 2) == '|' ? t->next++, false : \\1) {/"
+misread 'two spaces after a bar taken' "${in_note}s/!read_side\\(t, &right\\)/$maybe_space || &/"
+misread 'a second bar taken' "${in_note}s/ !take\\(t, '\\|'\\) \\|\\|/ !take(t, '|') || (character(t, 0) == '|' \\&\\& !take(t, '|')) ||/"
+misread 'an empty last side taken' "${in_note}s/!read_side\\(t, &right\\)/(right.count = 0, t->next < t->len \\&\\& &)/"
+misread 'an empty first side taken' "${in_note}s/^    if \\(!read_side/    if (character(t, 0) == ' ' \\&\\& character(t, 1) == '|') out->count = 0; else if (!read_side/"
+misread 'an empty side between bars taken' "${in_note}{s/struct string right;/struct string right = {1, {0}};/
+    s/^    while .*/    while (character(t, 0) == ' ' || (character(t, 0) == '|' \\&\\& right.count == 0)) {/
+    s/!take\\(t, ' '\\) \\|\\| !take\\(t, '\\|'\\)/$maybe_space || !take(t, '|')/
+    s/!read_side\\(t, &right\\)/(right.count = 0, character(t, 0) != '|' \\&\\& &)/}"
+misread 'an empty text taken' "${in_text}s/^    if \\(read_note/    all.count = 0;\\n    if (n > 0 \\&\\& read_note/"
+misread 'no space between items taken' "${in_side}{s/^    while \\((.*)\\) \\{/    while (character(t, 0) == '(' || (\\1)) {/
+    s/^        t->next\\+\\+;/        if (character(t, 0) == ' ') t->next++;/}"
+misread 'a space before a count taken' "${in_item}s/^    if \\(character\\(t, 0\\) != '\\*'\\)/    if (character(t, 0) == ' ' \\&\\& character(t, 1) == '*') t->next++;\\n&/"
+misread 'a space after the sign of a count taken' "${in_item}s/^    t->next\\+\\+;/    t->next += character(t, 1) == ' ' ? 2 : 1;/"
+misread 'two counts taken' "$two_counts"
+misread 'the sign of a count alone taken' "${in_item}s/^    if \\(!read_number/    if (!is_digit(character(t, 0))) return true;\\n&/"
+
+# Parentheses
+misread 'seventeen taken' "$deeper"
+misread 'sixteen refused' "$not_so_deep"
+misread 'no more than sixteen in all' "$never_closed"
+misread '22 for seventeen' "${in_part}s/return refuse\\(t, 23\\)/return refuse(t, 22)/"
+misread '23 before 22 on one character' "$deep_first"
+misread '23 after a later 22' \
+    "${in_text}s/^    out->number = t.number;/    if (t.number == 23 \\&\\& parentheses < 100) {\\n        ref_read_note(text, n, 100, out);\\n        if (out->number == 22) return;\\n    }\\n&/"
+misread '23 for any parenthesis where sixteen are open' "s/^static bool refuse\\(.*/&;\\n&/;s/^    t->number = number;/    t->number = number == 22 \\&\\& t->open == t->most ? 23 : number;/"
+misread 'an empty pair taken' "${in_part}s/^        if \\(!read_note\\(t, out\\) \\|\\| /        out->count = 0;\\n        if ((character(t, 0) != ')' \\&\\& !read_note(t, out)) || /"
+misread 'closed by the end' "${in_part}s/!take\\(t, '\\)'\\)/(t->next < t->len \\&\\& !take(t, ')'))/"
+misread 'one closed too often taken' "${in_text}s/t.next < n\\)/t.next < n \\&\\& text[t.next] != ')')/"
+misread 'what follows the note not looked at' "${in_text}s/t.next < n\\)/false)/"
+
+# How many references
+misread 'a slice of just the references refused' "${in_call}s/noted.count > room/noted.count >= room/"
+misread 'one reference more than the slice holds' "${in_call}s/noted.count > room/noted.count > room + 1/"
+misread 'the slice not looked at' "${in_call}s/ \\|\\| noted.count > room//"
+misread 'as many as the slice holds' "${in_call}s/ \\|\\| noted.count > room\\)/)/;${in_call}s/^    memcpy/    if (noted.count > room) noted.count = room;\\n&/"
+misread '2049 references taken' "${in_call}s/noted.count > REF_REFERENCES \\|\\| /(noted.count = noted.count > REF_REFERENCES ? REF_REFERENCES : noted.count) > room || /"
+misread '2048 references refused' "${in_call}s/noted.count > REF_REFERENCES/noted.count >= REF_REFERENCES/"
+misread '22 for too many references' "${in_call}s/return 24/return 22/"
+misread '23 for too many references' "${in_call}s/return 24/return 23/"
+for number in 22 23; do
+    misread "24 before $number, for no room" "$(refused_as "room == 0 \\&\\& noted.number == $number ? 24 : noted.number")"
+    misread "24 before $number, for more than 2048" "s/^static void append/static int many;\\n\\n&/;s/count = TOO_MANY;/&\\n        many = 1;/
+        ${in_call}s/^    \\*count = 0;/    many = 0;\\n&/;$(refused_as "many \\&\\& noted.number == $number ? 24 : noted.number")"
+done
+for bits in 16 32 64; do
+    misread "$bits bits of a number of references" "$(counted_in "$bits")"
+done
+
+# What is written
+misread 'an entry past the count changed' "${in_call}s/^    \\*count = noted.count;/&\\n    if (noted.count < room) references[noted.count] = 0;/"
+misread 'an entry past the slice changed' "${in_call}s/^    \\*count = noted.count;/&\\n    if (noted.count == room) references[noted.count] = 0;/"
+misread 'no entry written' "${in_call}s/^    memcpy/    if (room > REF_BLOCKS * 9) memcpy/"
+misread 'an entry written by 22' "$(refused_as '(noted.number == 22 \&\& room > 0 ? references[0] = 0 : 0, noted.number)')"
+misread 'an entry written by 23' "$(refused_as '(noted.number == 23 \&\& room > 0 ? references[0] = 0 : 0, noted.number)')"
+misread 'entries written by 24, as many as fit' \
+    "${in_call}s/^        return 24;/        {\\n        memcpy(references, noted.reference, (noted.count < room ? noted.count : room) * sizeof references[0]);\\n        return 24;\\n    }/"
+misread 'one reference more in the count' "${in_call}s/^    \\*count = noted.count;/    *count = noted.count + 1;/"
+
+# The same, and places, in the search of short texts
+found 'the right side first' "$right_first" 'ANOTHER REFERENCE'
+found 'the rest of the longer side dropped' "${in_mix}s/left->count \\|\\| r </left->count \\&\\& r </" 'ANOTHER COUNT\|NOT REFUSED'
+found 'grouped to the right' "$to_right" 'ANOTHER REFERENCE'
+found 'each reference repeated in its place' "$each_twice" 'ANOTHER REFERENCE'
+found '512 taken' 's/REF_BLOCKS - 1, &block/REF_BLOCKS, \&block/' 'ANOTHER NUMBER'
+found 'counts of any size taken' "${in_item}s/1, REF_REFERENCES, /1, 99999999, /" 'ANOTHER NUMBER\|AT ANOTHER PLACE'
+found '0 taken as a count' "${in_item}s/1, REF_REFERENCES, /0, REF_REFERENCES, /" 'ANOTHER NUMBER'
+found 'zeros in front taken' "$zeros" 'ANOTHER NUMBER'
+found 'two counts taken' "$two_counts" 'ANOTHER NUMBER\|AT ANOTHER PLACE'
+found 'two spaces taken' "$two_spaces" 'ANOTHER NUMBER\|AT ANOTHER PLACE'
+found 'no space before a bar taken' "$unspaced_bar" 'ANOTHER NUMBER\|AT ANOTHER PLACE'
+found 'one parenthesis more than allowed taken' "$deeper" 'ANOTHER NUMBER'
+found 'as many parentheses as allowed refused' "$not_so_deep" 'ANOTHER NUMBER'
+found 'no more than so many parentheses in all' "$never_closed" 'ANOTHER NUMBER'
+found '23 before 22 on one character' "$deep_first" 'ANOTHER NUMBER'
+found '2049 references taken' "${in_call}s/noted.count > REF_REFERENCES \\|\\| /(noted.count = noted.count > REF_REFERENCES ? REF_REFERENCES : noted.count) > room || /" 'NOT REFUSED WITH 24'
+found 'an entry past the count changed' "${in_call}s/^    \\*count = noted.count;/&\\n    references[noted.count] = 0;/" 'WRITTEN PAST THE COUNT'
+found 'an entry written by 24' "${in_call}s/^        return 24;/        return room > 0 ? references[0] = 0, 24 : 24;/" 'WRITTEN THOUGH REFUSED'
+found 'the place of the character before' "${in_text}s/out->place = t.next/out->place = t.next - 1/" 'AT ANOTHER PLACE'
+found 'the place where a number begins' \
+    "$in_number{s/^    bool first = true;/    size_t start = t->next;\\n&/;s/^            return refuse\\(t, 22\\);/            return t->next = start, refuse(t, 22);/}" 'AT ANOTHER PLACE'
+found 'the place after the digits' \
+    "${in_number}s/^            return refuse\\(t, 22\\);/            { while (is_digit(character(t, 0))) t->next++; return refuse(t, 22); }/" 'AT ANOTHER PLACE'
+found 'the place of the space before a bar' "${in_note}s/!take\\(t, '\\|'\\) \\|\\| !take\\(t, ' '\\)/!take(t, '|') || (character(t, 0) != ' ' \\&\\& (t->next -= 2, !refuse(t, 22))) || !take(t, ' ')/" 'AT ANOTHER PLACE'
+found '23 where the note inside ends' \
+    "${in_part}s/^            return refuse\\(t, 23\\);/            { while (character(t, 0) != END \\&\\& character(t, 0) != ')') t->next++; return refuse(t, 23); }/" 'AT ANOTHER PLACE'
+found 'an unknown byte is a space' "$(read_as_space 200)" 'ANOTHER NUMBER\|AT ANOTHER PLACE'
 
 echo "$tried mutants, $missed not caught"
 [ "$missed" -eq 0 ]

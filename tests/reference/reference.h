@@ -1,7 +1,8 @@
-/* reference.h - the planner of document 01 with requests L1 to L5, written from the papers alone.
+/* reference.h - the planner of document 01 with requests L1 to L6, written from the papers alone.
  *
  * A reference to compare others with: tables and plain passes over the blocks, nothing clever.
- * Every answer "number" is 0, or the number of the refusal in documents 01 and 02. */
+ * Every answer "number" is 0, or the number of the refusal in documents 01 and 02. Notes, of request
+ * L6, are in note.c, all else is in reference.c. */
 #ifndef REFERENCE_H
 #define REFERENCE_H
 
@@ -19,6 +20,7 @@ enum {
     REF_LINE = 17,             /* a line of a page: "16 columns and a line feed" */
     REF_LEGEND = 5,            /* "Five legend lines ... close the page" */
     REF_PAGE = (REF_ROUNDS * REF_DISKS + REF_LEGEND) * REF_LINE,  /* the longest page: 278,613 */
+    REF_PARENTHESES = 16,      /* of a note: no more are open at once */
     REF_NONE = 0xffff,         /* no block */
     REF_PLANNED_NUMBERS = 20,  /* mark, part length, then 9 for each plan */
     REF_CHECKED_NUMBERS = 9,   /* rounds and eight fetch counts */
@@ -93,6 +95,21 @@ unsigned ref_check(const uint8_t *ticket, size_t n, size_t stop, const uint8_t *
 /* The choice between two sheets up to a stop; all of out is 0 if refused. */
 unsigned ref_choose(const uint8_t *ticket, size_t n, size_t stop, const uint8_t *first, size_t m1,
                     const uint8_t *second, size_t m2, struct ref_chosen *out);
+
+/* A note, read. A count above REF_REFERENCES says only that they are too many. */
+struct ref_noted {
+    unsigned number;                   /* 0, 22 or 23 */
+    size_t place;                      /* where 22 or 23 is met, from 0; the length for the end */
+    size_t count;                      /* of the references, 0 if refused */
+    uint16_t reference[REF_REFERENCES];
+};
+
+/* A text as a note in which so many parentheses may be open, REF_PARENTHESES in the papers. */
+void ref_read_note(const uint8_t *text, size_t n, unsigned parentheses, struct ref_noted *out);
+
+/* The references of a note: writes so many as it has and gives their count, or writes nothing and
+ * gives 0 if refused. */
+unsigned ref_note(const uint8_t *text, size_t n, uint16_t *references, size_t room, size_t *count);
 
 /* The numbers a call from C writes, in order, and how it writes them. */
 void ref_planned_numbers(const struct ref_planned *planned, uint16_t *numbers);

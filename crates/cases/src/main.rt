@@ -1,6 +1,7 @@
-// The vectors' calls, made through the planner's public calls. Standard input has a call on each line, `plan TICKET STOP ROOM ROOM`,
-// `page TICKET STOP ROOM ROOM ROOM`, `check TICKET STOP SHEET` or `choose TICKET STOP SHEET SHEET`, with bytes in hexadecimal and `-` for none; other
-// lines are comments. Standard output has the same lines, each call followed by ` = ` and what it gives, in the vectors' form.
+// The vectors' calls, made through the planner's public calls and that of `notes`. Standard input has a call on each line,
+// `plan TICKET STOP ROOM ROOM`, `page TICKET STOP ROOM ROOM ROOM`, `check TICKET STOP SHEET`, `choose TICKET STOP SHEET SHEET` or `note TEXT ROOM`, with
+// bytes in hexadecimal and `-` for none; other lines are comments. Standard output has the same lines, each call followed by ` = ` and what it gives,
+// in the vectors' form.
 use libc::STDIN_FILENO;
 use libc::STDOUT_FILENO;
 use returning::Counts;
@@ -14,6 +15,9 @@ ghost use Rattle.io.specs.Counts.{Counts as Within};
 
 // What the lent buffers are filled with before a call.
 const FILL: u8 = 165;
+
+// What the entries of a lent slice are filled with before a call: no block.
+const EMPTY: u16 = 65535;
 
 fn write(text: &[u8]) {
     io::write_all(STDOUT_FILENO, text);
@@ -338,6 +342,58 @@ fn choose_line() {
     choose_between(&ticket[..n], stop, &first[..m], &second[..k]);
 }
 
+// The start of a slice up to the last entry that is not as it was filled.
+fn changed_entries<'a>(lent: &'a [u16]) -> &'a [u16] {
+    let mut n = lent.len();
+    while n > 0 {
+        if lent[n - 1] != EMPTY {
+            return &lent[..n];
+        }
+        n -= 1;
+    }
+    &lent[..0]
+}
+
+fn write_entries(s: &[u16]) {
+    let mut i = 0;
+    while i < s.len() {
+        write_number(s[i] as usize);
+        i += 1;
+    }
+}
+
+// Reads a note into a filled slice. After a refusal the count is 0 and the slice as it was filled, so nothing of them is written; nor are there entries
+// past the count.
+fn note_into(text: &[u8], lent: &mut [u16]) {
+    let r = notes::read(text, lent);
+    write_number(r.number);
+    if r.number == 0 || r.count != 0 {
+        write_number(r.count);
+    }
+    write_entries(changed_entries(lent));
+}
+
+// As many entries of a slice as there are, at most n.
+fn within_entries(n: usize, lent: &[u16]) -> usize
+    ensures { λ r. ⌜ Within r (now (lent .entry)) ⌝ }
+{
+    if n < lent.len() {
+        return n;
+    }
+    lent.len()
+}
+
+// A line `note`. At most 4,096 entries are lent, and so twice as many as a note can have references.
+fn note_line() {
+    skip(b' ');
+    let mut text = io::large_buffer();
+    let n = read_bytes(&mut text);
+    let mut lent = [EMPTY; 4096];
+    let a = within_entries(read_number(), &lent);
+    write(b" =");
+    note_into(&text[..n], &mut lent[..a]);
+}
+
 // A line `plan` or `page`, after its first letter; the second tells them apart.
 fn planning_line() {
     let second = next();
@@ -371,6 +427,8 @@ fn line() -> bool {
         planning_line();
     } else if b == b'c' {
         sheet_line();
+    } else if b == b'n' {
+        note_line();
     } else {
         skip(b'\n');
     }

@@ -1,5 +1,6 @@
-// The texts that the programs print for a ticket. Document 01: "mark and rounds of the chosen plan, then each disk with its fetches in that plan. A
-// refusal prints `refused`, a space and the number. Every line ends in a line feed." Document 02, L2: the page; L5: the stop, which "is N".
+// The texts that the programs print. For a ticket, document 01: "mark and rounds of the chosen plan, then each disk with its fetches in that plan. A
+// refusal prints `refused`, a space and the number. Every line ends in a line feed." Document 02, L2: the page; L5: the stop, which "is N". For a
+// note of passes, L6: its references.
 use returning::Counts;
 use returning::Mark;
 use returning::Planned;
@@ -9,6 +10,7 @@ ghost use Prim.Native.Nat.{_+_, _*_, _≤_, _<_};
 ghost use lib.ListN.{length, getD};
 ghost use Rattle.bits.specs.Bits.{laid};
 ghost use Rattle.model.specs.Text.{decimal};
+ghost use Rattle.report.specs.Passes.{noteLength, Blocks, passesLine, passesPrinted};
 ghost use Rattle.report.specs.Report.{lineEnd, diskLines, refusalLine, printed, pagePrinted};
 ghost use Rattle.report.specs.Text.{Put, planText, textOf, Small};
 
@@ -42,7 +44,7 @@ fn put_word(out: &mut [u8], at: usize, word: &[u8]) -> usize
 
 // A number in decimal digits.
 fn put_decimal(out: &mut [u8], at: usize, n: usize) -> usize
-    requires { ⌜ at < 256 ⌝ }
+    requires { ⌜ at < 65000 ⌝ }
     requires { ⌜ n < 65536 ⌝ }
     ensures { λ r. ⌜ Put at (decimal n) (now (out .entry)) (now (out .exit)) r ⌝ }
 {
@@ -148,4 +150,54 @@ pub fn page(ticket: &[u8], out: &mut [u8]) -> usize
         return put_refusal(out, number);
     }
     paged.length
+}
+
+// The line of the references: their block numbers, separated by spaces, and a line feed.
+fn put_blocks(out: &mut [u8], blocks: &[u16]) -> usize
+    requires { ⌜ Blocks (now blocks) ⌝ }
+    ensures text { λ r. ⌜ Put 0 (passesLine (now (blocks .entry))) (now (out .entry)) (now (out .exit)) r ⌝ }
+    ensures few { λ r. ⌜ r ≤ 8192 ⌝ }
+{
+    let mut at = 0;
+    let mut i = 0;
+    while i < blocks.len() {
+        if i > 0 {
+            at = put(out, at, b' ');
+        }
+        at = put_decimal(out, at, blocks[i] as usize);
+        i += 1;
+    }
+    put(out, at, b'\n')
+}
+
+// How many bytes of the input are the note: one line feed at its end is not part of it.
+fn note_length(input: &[u8]) -> usize
+    ensures { λ r. ⌜ r ≡ noteLength (now (input .entry)) ⌝ }
+{
+    let n = input.len();
+    if n == 0 {
+        return 0;
+    }
+    if input[n - 1] == b'\n' {
+        return n - 1;
+    }
+    n
+}
+
+// The text of `passes` for its input, written as far as `out` reaches, and its length, at most 8,192 bytes: the line of the references, or of a
+// refusal.
+pub fn passes(input: &[u8], out: &mut [u8]) -> usize
+    ensures bytes { λ r. ⌜ now (out .exit) ≡ laid (passesPrinted (now (input .entry))) (now (out .entry)) ⌝ }
+    ensures count { λ r. ⌜ r ≡ length (passesPrinted (now (input .entry))) ⌝ }
+    ensures few { λ r. ⌜ r ≤ 8192 ⌝ }
+{
+    let mut blocks = [0u16; 2048];
+    let end = note_length(input);
+    let read = notes::read(&input[..end], &mut blocks);
+    let number = read.number;
+    if number != 0 {
+        return put_refusal(out, number);
+    }
+    let count = read.count;
+    put_blocks(out, &blocks[..count])
 }

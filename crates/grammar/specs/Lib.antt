@@ -1,0 +1,3 @@
+pub mod Note
+pub mod Reading
+pub mod Places
