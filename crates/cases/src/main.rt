@@ -1,7 +1,7 @@
 // The vectors' calls, made through the planner's public calls and that of `notes`. Standard input has a call on each line,
-// `plan TICKET STOP ROOM ROOM`, `page TICKET STOP ROOM ROOM ROOM`, `check TICKET STOP SHEET`, `choose TICKET STOP SHEET SHEET` or `note TEXT ROOM`, with
-// bytes in hexadecimal and `-` for none; other lines are comments. Standard output has the same lines, each call followed by ` = ` and what it gives,
-// in the vectors' form.
+// `plan TICKET STOP ROOM ROOM`, `page TICKET STOP ROOM ROOM ROOM`, `check TICKET STOP SHEET`, `choose TICKET STOP SHEET SHEET` or `note TEXT ROOM`,
+// with bytes in hexadecimal and `-` for none; other lines are comments. Standard output has the same lines, each call followed by ` = ` and what it
+// gives, in the vectors' form.
 use libc::STDIN_FILENO;
 use libc::STDOUT_FILENO;
 use returning::Counts;
@@ -362,8 +362,8 @@ fn write_entries(s: &[u16]) {
     }
 }
 
-// Reads a note into a filled slice. After a refusal the count is 0 and the slice as it was filled, so nothing of them is written; nor are there entries
-// past the count.
+// Reads a note into a filled slice. After a refusal the count is 0 and the slice as it was filled, so nothing of them is written. An entry that was
+// written past the count, or by a refused call, shows.
 fn note_into(text: &[u8], lent: &mut [u16]) {
     let r = notes::read(text, lent);
     write_number(r.number);
@@ -383,7 +383,7 @@ fn within_entries(n: usize, lent: &[u16]) -> usize
     lent.len()
 }
 
-// A line `note`. At most 4,096 entries are lent, and so twice as many as a note can have references.
+// A line `note`. At most 4,096 entries are lent, twice as many as a note can have references.
 fn note_line() {
     skip(b' ');
     let mut text = io::large_buffer();

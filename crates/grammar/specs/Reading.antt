@@ -68,25 +68,28 @@ longer (once (block v)) c = cond (goesOn 511 v c) (some (once (block (v * 10 + d
 longer (once (inside n)) c = none
 longer (times p k) c = cond (goesOn 2048 k c) (some (times p (k * 10 + digit c))) none
 
--- The state after one character more, if some note can go on with it.
+-- Where an item begins: a parenthesis that opens begins a note within this one, a digit a block number.
 abbrev pub atBegin : Before → List Before → ℕ → Option State
 atBegin b o c =
     cond (eqb c (code "(")) (some (state (begin nothing) (b ∷ o)))
     (cond (isDigit c) (some (state (read b (once (block (digit c)))) o)) none)
 
--- ")": the note that ends is an item of the note around it
+-- `)`: the note that ends is an item of the note around it, if a parenthesis is open.
 unfoldable pub closed : Note → List Before → Option State
 closed n [] = none
 closed n (b ∷ o) = some (state (read b (once (inside n))) o)
 
+-- `*`: a count follows a part that has none yet.
 unfoldable pub starred : Before → Item → List Before → Option State
 starred b (once p) o = some (state (star b p) o)
 starred b (times p k) o = none
 
+-- A digit: the last number of an item goes on.
 unfoldable pub grown : Before → List Before → Option Item → Option State
 grown b o none = none
 grown b o (some i) = some (state (read b i) o)
 
+-- The state after one character more; none if no note can go on with it.
 unfoldable pub afterIn : Mode → List Before → ℕ → Option State
 unfolding longer closed starred grown
 afterIn (begin b) o c = atBegin b o c

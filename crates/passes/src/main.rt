@@ -11,8 +11,8 @@ fn buffer() -> [u8; 1048576]
     [0; 1048576]
 }
 
-// The longest note that is given has 147,453 bytes. A longer input is cut to 1,048,576 bytes: it is refused as the whole is, though the number can be
-// another (`cut-passes` of `report`). The longest text has 8,192 bytes.
+// An input longer than the buffer is cut to its first 1,048,576 bytes and is refused, as the whole is: the longest note has 147,453. The number can
+// be another then (`cut-passes` of `report`). The longest text, of 2,048 references with three digits each, has 8,192 bytes.
 fn main() {
     let mut input = buffer();
     let n = io::read_full(STDIN_FILENO, &mut input);

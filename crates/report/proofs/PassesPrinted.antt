@@ -5,10 +5,10 @@ use mathlib.Core.List.{List, [], _∷_, _++_, append-assoc}
 use Prim.Native.Nat.{ℕ, zero, suc, _+_, _-_, _≤_, _<_}
 use native.Mathlib.Numerals.{add-one}
 use native.Mathlib.Omega.{arith}
-use lib.Dec.{leb, eqb}
+use lib.Dec.{ltb, leb, eqb}
 use lib.ListN.{length, take, getD, length-append}
 use lib.Seq.{take-all, take-at, take-length, length-take-le, getD-at}
-use borrow.Author.Tests.{leb-true, leb-false, eq-eqb, ne-eqb, eqb-true}
+use borrow.Author.Tests.{le-ltb, ltb-false, leb-true, leb-false, eq-eqb, ne-eqb, eqb-true}
 use Rattle.bits.specs.Bits.{laid, over}
 use Rattle.bits.specs.Fields.{laidAt}
 use Rattle.bits.specs.Reading.{Answer, given, refused}
@@ -16,9 +16,9 @@ use Rattle.bits.proofs.Logic.{by-test, clash}
 use Rattle.model.specs.Calls.{numberOf, among}
 use Rattle.model.specs.Text.{decimal}
 use Rattle.model.proofs.Text.{decimal-few}
-use Rattle.grammar.specs.Note.{Note, noteRefs, noteDepth}
+use Rattle.grammar.specs.Note.{Note, noteCount, noteRefs, noteDepth}
 use Rattle.grammar.specs.Places.{IsNote, Malformed, TooDeep}
-use Rattle.grammar.specs.Reading.{noteAnswer}
+use Rattle.grammar.specs.Reading.{Outcome, whole, stuck, scan, start, withRoom, noteAnswer}
 use Rattle.grammar.proofs.Promises.{reads-exactly, given-blocks, malformed, too-deep, too-many, note-numbers, note-length}
 use Rattle.notes.specs.Notes.{passesAs, refsAfter}
 use Rattle.notes.specs.declared.Passes.{Passes}
@@ -107,17 +107,31 @@ front-is n s lent after e f = rw f (take-at s _ n (sym e))
 abbrev pub Printed : List ℕ → List ℕ → List ℕ → ℕ → Type 0
 Printed input out after n = (after ≡ laid (passesPrinted input) out) × ((n ≡ length (passesPrinted input)) × (n ≤ 8192))
 
--- What reading gives: the value, and the slice of 2,048 entries after it.
+-- No string has more than 2,048 references, so a longer slice changes no answer.
+room-enough : (room : ℕ) (o : Outcome) → 2048 ≤ room → withRoom room o ≡ withRoom 2048 o
+unfolding withRoom
+room-enough room (stuck n l) h = refl
+room-enough room (whole n) h =
+    by-test (ltb 2048 (noteCount n))
+    (λ y. rw (y, withRoom))
+    (λ y. let few = ltb-false 2048 (noteCount n) y in rw (y, le-ltb room (noteCount n) (omega (arith, few)), withRoom))
+
+answer-enough : (t : List ℕ) (room : ℕ) → 2048 ≤ room → noteAnswer t room ≡ noteAnswer t 2048
+unfolding noteAnswer
+answer-enough t room h = room-enough room (scan start t) h
+
+-- What reading gives: the value, and the slice after it.
 pub record NoteRead (input : List ℕ) (r : Passes) (blocks : List ℕ) : Type 0 where
   pub lent : List ℕ
   pub value : r ≡ passesAs (noteAnswer (noteIn input) 2048)
   pub entries : blocks ≡ refsAfter (noteAnswer (noteIn input) 2048) lent
 
-pub note-read : (input : List ℕ) (k : ℕ) (lent : List ℕ) {r : Passes} {blocks : List ℕ} → k ≡ noteLength input → length lent ≡ 2048
-    → r ≡ passesAs (noteAnswer (take k input) (length lent)) → blocks ≡ refsAfter (noteAnswer (take k input) (length lent)) lent → NoteRead input r blocks
+pub note-read : (input : List ℕ) (k room : ℕ) (lent : List ℕ) {r : Passes} {blocks : List ℕ} → k ≡ noteLength input
+    → r ≡ passesAs (noteAnswer (take k input) room) → blocks ≡ refsAfter (noteAnswer (take k input) room) lent
+    → length blocks ≡ room → 2048 ≤ length blocks → NoteRead input r blocks
 unfolding noteIn
-note-read input k lent e l p q =
-    let same : noteAnswer (take k input) (length lent) ≡ noteAnswer (noteIn input) 2048 = λ i. noteAnswer (take (e i) input) (l i) in
+note-read input k room lent e p q s h =
+    let same = ap (λ (n : ℕ). noteAnswer (take n input) room) e ∙ answer-enough (noteIn input) room (omega (arith, s, h)) in
     record { lent = lent; value = p ∙ ap passesAs same; entries = q ∙ ap (λ (x : Answer (List ℕ)). refsAfter x lent) same }
 
 module _ {input : List ℕ} {r : Passes} {blocks : List ℕ} (read : NoteRead input r blocks) where
@@ -205,8 +219,8 @@ long-refused input h = go (noteAnswer (noteIn input) 2048) refl
         absurd (omega (arith, few, long, most, h))
     go (refused n) q = (n, ap passesLines q)
 
--- So what is printed for the first 1,048,576 bytes of an input is what is printed for the input, or both are refused: with 24 for the one and 22 for
--- the other, it may be, as where the cut comes after a space.
+-- So what is printed for the first 1,048,576 bytes of an input is what is printed for the input, or both are refused. The numbers can differ: a
+-- longer `1 1 1 ..` has too many references, 24, and cut after a space it is malformed, 22.
 pub cut-passes : (t : List ℕ) → (passesPrinted (take 1048576 t) ≡ passesPrinted t)
     ⊎ ((m : ℕ) × (n : ℕ) × (passesPrinted (take 1048576 t) ≡ refusalLine m) × (passesPrinted t ≡ refusalLine n))
 cut-passes t =

@@ -5,8 +5,6 @@ use native.Mathlib.Omega.{arith}
 use Rattle.cases.proofs.Counting.{counted}
 use Rattle.cases.proofs.within_entries.Statement.{statement}
 use Rattle.cases.proofs.within_entries.Tie as tie
-use Rattle.cases.proofs.within_entries.Reads as reads
-use Rattle.cases.proofs.within_entries.Lts as lts
 
 returns : tie.Need-returns
 returns c = counted (c .before .args .n) (now (c .before .args .lent)) (omega arith)

@@ -1,19 +1,14 @@
 -- `report::passes` meets its contract, for a string and for a refusal. Assumes nothing.
-use mathlib.Core.Path.{_≡_, refl, sym}
+use mathlib.Core.Path.{sym}
+use Prim.Native.Nat.{_≤_}
 use native.Mathlib.Omega.{arith}
-use lib.ListN.{length, replicate}
+use lib.ListN.{length}
 use lib.Seq.{length-take-le}
 use denote.Ref.{now}
 use Rattle.report.proofs.PassesPrinted.{NoteRead, note-read, read-within, number-small, refusal-printed, count-within, string-blocks, string-printed}
 use borrow.Author.Needs.{needs}
 use Rattle.report.proofs.passes.Statement.{statement}
 use Rattle.report.proofs.passes.Tie as tie
-use Rattle.report.proofs.passes.Reads as reads
-use Rattle.report.proofs.passes.Lts as lts
-use Rattle.notes.proofs.read.Reads as read-reads
-use Rattle.report.proofs.note_length.Reads as note-length-reads
-use Rattle.report.proofs.put_blocks.Reads as put-blocks-reads
-use Rattle.report.proofs.put_refusal.Reads as put-refusal-reads
 
 note-length-requires : tie.Need-note-length-requires
 note-length-requires c κs = search needs
@@ -31,12 +26,13 @@ slice-aggregate-read-2 c = search needs
 read-requires : tie.Need-read-requires
 read-requires c κs = search needs
 
--- what reading gives for the note in the input
-read-is : (c : tie.After-read) → NoteRead (now (c .before .before .before .before .before .before .args .input)) (c .read .result) (c .read .last .1 .0)
-read-is c = note-read _ _ (replicate 2048 0) (c .before .before .before .note-length .ensures) refl (c .read .ensures .0) (c .read .ensures .1)
+-- what reading gives for the note in the input, with a slice that has room for every string
+blocks-long : (c : tie.After-read) → 2048 ≤ length (c .read .last .1 .0)
+blocks-long c = let same = c .read .kept .1 .0 in omega (arith, same)
 
-blocks-long : (c : tie.After-read) → length (c .read .last .1 .0) ≡ 2048
-blocks-long c = c .read .kept .1 .0
+read-is : (c : tie.After-read) → NoteRead (now (c .before .before .before .before .before .before .args .input)) (c .read .result) (c .read .last .1 .0)
+read-is c =
+    note-read _ _ _ _ (c .before .before .before .note-length .ensures) (c .read .ensures .0) (c .read .ensures .1) (c .read .kept .1 .0) (blocks-long c)
 
 put-refusal-requires : tie.Need-put-refusal-requires
 put-refusal-requires c κs = number-small (read-is (c .before .before .before))

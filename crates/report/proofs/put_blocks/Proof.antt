@@ -2,6 +2,7 @@
 -- first. Assumes nothing.
 use mathlib.Core.Path.{ap}
 use mathlib.Core.Logic.{⊎-elim}
+use mathlib.Core.List.{[], _∷_}
 use Prim.Native.Nat.{_-_, _*_, _≤_}
 use native.Mathlib.Omega.{arith}
 use lib.ListN.{length, take, getD}
@@ -12,10 +13,6 @@ use Rattle.report.proofs.Laws.{put-start, put-then, put-same, put-lengt
 use Rattle.report.proofs.PassesPrinted.{spaceBefore, space-few, space-none, space-put, block-three, put-block}
 use Rattle.report.proofs.put_blocks.Statement.{statement}
 use Rattle.report.proofs.put_blocks.Tie as tie
-use Rattle.report.proofs.put_blocks.Reads as reads
-use Rattle.report.proofs.put_blocks.Lts as lts
-use Rattle.report.proofs.put.Reads as put-reads
-use Rattle.report.proofs.put_decimal.Reads as put-decimal-reads
 
 abbrev Inv-loop : tie.InvT-loop
 Inv-loop out₀ blocks at₀ i₀ out at i = (i ≤ length blocks) × Blocks blocks × (at ≤ 4 * i - 1) × Put 0 (spaced (take i blocks)) out₀ out at
@@ -34,7 +31,10 @@ put-requires c κs = let b = c .before .before .before .loop .inv .1 .few in ome
 space : (c : tie.Joined1 Inv-loop μ-loop) → let l = c .before .before .loop in Put (l .at) (spaceBefore (l .i)) (l .out) (c .if1 .out) (c .if1 .at)
 space c =
     let l = c .before .before .loop in
-    ⊎-elim (λ w. rw (w .5, w .6) (space-put (l .i) (w .0 .taken) (w .2 .ensures))) (λ w. rw (w .1, w .2) (space-none (l .i) (w .0 .left))) (c .if1 .came)
+    ⊎-elim
+    (λ w. let put : Put (l .at) (32 ∷ []) (l .out) (w .2 .last .0) (w .2 .result) = w .2 .ensures in rw (w .5, w .6) (space-put (l .i) (w .0 .taken) put))
+    (λ w. rw (w .1, w .2) (space-none (l .i) (w .0 .left)))
+    (c .if1 .came)
 
 after-space : (c : tie.Joined1 Inv-loop μ-loop) → c .if1 .at ≤ 4 * c .before .before .loop .i
 after-space c =
