@@ -25,6 +25,7 @@ while read -r name ticket p_min p_con; do
     F | G) { unhex "$ticket" >"$name.ticket" && unhex "$p_min" >"$name.p-min" && unhex "$p_con" >"$name.p-con"; } || exit 2 ;;
     esac
 done <"$cases/vectors.txt"
+unhex 0088010220140a8090320380a078120280e0481e038080 >G.idle     # the sheet of P-MIN with two idle rounds at its end, 8 in all
 unhex 00380101101a018000 >F.part     # up to the stop 4, as in stops.txt
 head -c 10 F.p-con >F.cut
 head -c 50000 /dev/zero | cat F.p-con - >F.long
@@ -35,6 +36,10 @@ choose F.ticket F.p-con F.p-min
 choose F.ticket F.p-min F.p-min
 choose G.ticket G.p-min G.p-con
 choose G.ticket G.p-con G.p-min
+# Rounds after the last reference are not charged: 6 rounds of G.idle are, and 7 of G.p-con.
+choose G.ticket G.p-con G.idle
+choose G.ticket G.idle G.p-con
+choose G.ticket G.p-min G.idle
 # Refused: by the second sheet, by the first of two, by the ticket. The whole job counts, so that a sheet for a part of it is refused.
 choose F.ticket F.p-min F.part
 choose F.ticket F.p-min F.cut

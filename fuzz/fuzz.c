@@ -1,8 +1,9 @@
 /* fuzz.c - the library against the reference on bytes that libFuzzer makes (input.h has their form).
  *
  * An input's first sheet is checked for its ticket up to its stop, the choice is made between its two sheets, and its ticket is planned; the sheets
- * of a plan are checked too, and the choice is made between them and between one of them and the first sheet. Numbers, counts and all lent bytes must
- * be the reference's, with guard bytes around them, and no sheet that passes may beat a plan. The header must read the same N from the ticket. */
+ * of a plan are checked too, one of them also with rounds put after it, and the choice is made between them and between one of them and the first
+ * sheet. Numbers, counts and all lent bytes must be the reference's, with guard bytes around them, no sheet that passes may beat a plan, and rounds
+ * after a plan's may not be charged. The header must read the same N from the ticket. */
 #include "../tests/draw.h"
 #include "input.h"
 #include <planner.h>
@@ -69,7 +70,7 @@ static bool unbeaten(const struct input *in, const struct ref_counts *sheet)
     must(ref_read_ticket(in->ticket, in->ticket_length, in->stop, &job) == 0, "a pass for a ticket or a stop that is refused");
     ref_run(&job, REF_P_MIN, schedule, &p_min);
     ref_run(&job, REF_P_CON, schedule, &p_con);
-    good = sheet->rounds >= p_min.rounds;
+    good = sheet->charged >= p_min.charged;
     for (unsigned d = 0; d < REF_DISKS; d++)
         good = good && sheet->fetches[d] >= p_con.fetches[d];
     return good;
@@ -146,6 +147,29 @@ static unsigned try_plan(const struct input *in, const size_t length[2])
     return want;
 }
 
+/* The sheet of a plan, for a ticket and a stop that are accepted, with rounds put after it, idle or not: it passes, charged as the plan, with the
+ * fetches of all rounds. */
+static struct sheet longer_plan(const struct input *in)
+{
+    static struct ref_action schedule[REF_ROUNDS * REF_DISKS];
+    static uint8_t sheet[REF_SHEET];
+    static struct ref_job job;
+    struct chance c = chance_for(in->after, 0);
+    struct ref_counts want, have;
+    struct sheet longer = {sheet, 0};
+    unsigned rounds;
+
+    must(ref_read_ticket(in->ticket, in->ticket_length, in->stop, &job) == 0, "a plan for a ticket or a stop that is refused");
+    ref_run(&job, (enum ref_rule)(in->after % 2), schedule, &want);
+    rounds = draw_longer(&c, &job, schedule, want.charged);
+    for (unsigned k = want.charged * job.disks; k < rounds * job.disks; k++)
+        want.fetches[k % job.disks] += schedule[k].fetch != REF_NONE;
+    longer.len = ref_write_sheet(schedule, rounds, job.disks, sheet, sizeof sheet);
+    must(ref_check(in->ticket, in->ticket_length, in->stop, sheet, longer.len, &have) == 0, "a plan's sheet with rounds after it is refused");
+    must(memcmp(&have, &want, sizeof want) == 0, "a plan's sheet with rounds after it has other counts");
+    return longer;
+}
+
 /* The header's reader, on bytes of their own, so that a read past them is seen. */
 static void try_references(const struct input *in)
 {
@@ -162,7 +186,7 @@ int LLVMFuzzerTestOneInput(const uint8_t *data, size_t size)
 {
     static uint8_t sheet[2][REF_SHEET];
     struct input in = input_of(data, size);
-    struct sheet first = {in.sheet[0], in.sheet_length[0]}, second = {in.sheet[1], in.sheet_length[1]}, plan[2];
+    struct sheet first = {in.sheet[0], in.sheet_length[0]}, second = {in.sheet[1], in.sheet_length[1]}, plan[2], longer;
     struct ref_planned planned;
 
     try_references(&in);
@@ -177,9 +201,13 @@ int LLVMFuzzerTestOneInput(const uint8_t *data, size_t size)
         plan[k] = (struct sheet){sheet[k], planned.sheet_length[k]};
         try_check(&in, plan[k]);
     }
+    longer = longer_plan(&in);
+    try_check(&in, longer);
     try_choose(&in, plan[REF_P_MIN], plan[REF_P_CON]);
     try_choose(&in, plan[REF_P_MIN], first);
     try_choose(&in, first, plan[REF_P_CON]);
+    try_choose(&in, first, longer);
+    try_choose(&in, longer, first);
     return 0;
 }
 
@@ -224,7 +252,7 @@ static size_t fresh_sheet(struct chance *c, const struct ref_job *job, uint8_t *
 
     if (how < 2) {
         ref_run(job, (enum ref_rule)how, schedule, &counts);
-        rounds = counts.rounds;
+        rounds = counts.charged;
     } else {
         rounds = draw_schedule(c, job, (enum ending)below(c, 3), schedule);
         if (how == 3)

@@ -14,9 +14,14 @@
  *
  * A ticket is a job as bytes, a sheet a schedule as bytes. A stop is the number of references that count, from the first on: none at or past it is
  * read, and a block that is read only from there on is as one that is never read again. A stop that is the ticket's number of references is the whole
- * job; any value may be given, and one above that number is refused. No sheet that planner_check passes for a ticket and a stop takes fewer rounds than
- * the short plan for them, or on any disk fewer fetches than the sparing plan. This, each result and every byte written are proved of the source; the
- * compiler is trusted.
+ * job; any value may be given, and one above that number is refused.
+ *
+ * A sheet's rounds, for a ticket and a stop, are those that are charged: up to the round in which the last reference before the stop is read, 0 if
+ * nothing has to be read. The rounds written, which the sheet's first 12 bits say, may be more, idle or not; its fetches are counted in all of them,
+ * to the end. Of either plan all rounds are charged.
+ *
+ * No sheet that planner_check passes for a ticket and a stop takes fewer rounds than the short plan for them, or on any disk fewer fetches than the
+ * sparing plan, whatever it does after its last read. This, each result and every byte written are proved of the source; the compiler is trusted.
  *
  * Rules for planner_plan, planner_check and planner_choose:
  *   - Each slice is a pointer and a length in bytes, a ticket of planner_references too. A pointer may be null only with the length 0.
@@ -92,7 +97,7 @@ static inline const char *planner_why(uint32_t number)
     case PLANNER_TICKET_CLOSING:    return "the ticket's closing bits are not all zero, or a byte follows them";
     case PLANNER_STOP:              return "the stop is above the ticket's number of references";
     case PLANNER_SHEET_ENDS:        return "the sheet ends inside a field that is due";
-    case PLANNER_SHEET_ROUNDS:      return "the sheet has more than 2048 rounds";
+    case PLANNER_SHEET_ROUNDS:      return "more than 2048 rounds are written in the sheet";
     case PLANNER_SHEET_FETCHED:     return "a disk fetches a block that is not one of its own";
     case PLANNER_SHEET_RESIDENT:    return "a disk fetches a block that is already in its buffer";
     case PLANNER_SHEET_FULL:        return "a disk fetches a block and discards nothing, though every slot is taken";
@@ -140,7 +145,7 @@ static inline size_t planner_references(const uint8_t *ticket, size_t ticket_len
  *   counts         twenty numbers of 16 bits, most significant byte first, as far as the slice reaches (its length may be 0):
  *                    0       the mark: 0 to run the short sheet, 1 to run the sparing sheet
  *                    1       the length of the sheet to run, in bytes, at the start of its buffer
- *                    2..10   the short plan: its rounds, and its fetches on disks 0 to 7 (0 for disks that the job has not)
+ *                    2..10   the short plan: its rounds, all of them charged, and its fetches on disks 0 to 7 (0 for disks that the job has not)
  *                    11..19  the sparing plan: the same
  *
  * Returns 0, or 1 to 8, 21, 17 or 18. A refusal writes nothing. Each written sheet passes planner_check, with the same stop, with the counts given
@@ -155,8 +160,8 @@ uint32_t planner_plan(const uint8_t *ticket, size_t ticket_length, size_t stop,
  *   ticket, sheet  read only
  *   stop           the number of references that count: the sheet need read no others
  *   counts         nine numbers of 16 bits, most significant byte first, as far as the slice reaches (its length may be 0):
- *                    0       the sheet's rounds
- *                    1..8    its fetches on disks 0 to 7
+ *                    0       the sheet's rounds, those charged: up to the one in which the last reference before the stop is read, 0 for a stop of 0
+ *                    1..8    its fetches on disks 0 to 7, in all rounds that are written in it
  *
  * Returns 0 if the sheet is a valid schedule of the ticket's job up to the stop, else 1 to 8, 21, 9 to 16 or 20. A refusal writes nothing. */
 uint32_t planner_check(const uint8_t *ticket, size_t ticket_length, size_t stop,
@@ -164,7 +169,8 @@ uint32_t planner_check(const uint8_t *ticket, size_t ticket_length, size_t stop,
                        uint8_t *counts, size_t counts_length);
 
 /* Chooses between two sheets for a ticket up to a stop. Both are checked as planner_check does it, the first before the second. The second is handed
- * back if it takes no more rounds than the first, otherwise the first.
+ * back if it takes no more rounds than the first, otherwise the first. The rounds charged decide, which planner_check gives, not those written: on a
+ * tie the second is handed back even if it has more rounds written or more fetches.
  *
  *   ticket         read only
  *   stop           the number of references that count
@@ -177,8 +183,8 @@ uint32_t planner_check(const uint8_t *ticket, size_t ticket_length, size_t stop,
  *
  * No sheet is copied: the caller has both, and the one handed back is `second` if number 0 above is 1, else `first`. It passes planner_check and
  * takes no more rounds than the other. Between the two sheets of planner_plan with the same stop, the short one first, it is the second exactly when
- * planner_plan's mark is 1; planner_plan gives the length of the sheet to run only, so after it go by the mark. With the short plan's sheet first, nobody's second
- * sheet is handed back unless it takes equally many rounds. */
+ * planner_plan's mark is 1; planner_plan gives the length of the sheet to run only, so after it go by the mark. With the short plan's sheet first,
+ * nobody's second sheet is handed back unless it takes equally many rounds. */
 uint32_t planner_choose(const uint8_t *ticket, size_t ticket_length, size_t stop,
                         const uint8_t *first, size_t first_length,
                         const uint8_t *second, size_t second_length,

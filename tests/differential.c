@@ -5,9 +5,11 @@
  * job's draws depend on the seed and its own number only, so "SEED 1 FIRST" replays one job.
  * Exit 0 only if all agree and, in a run from 0 on, each call met every number that it can return,
  * every kind of stop, and stops above N for tickets that are refused, and filled counts slices of
- * every length from 0 to 45; the check met sheets for a later and for an earlier stop; the choice
- * met also each number of a second sheet whose first passes, handed back either sheet, and met equal
- * rounds and the same sheet twice; and the header read N from sound tickets and other bytes. */
+ * every length from 0 to 45; the check met sheets for a later and for an earlier stop, and passed
+ * sheets of which all rounds are charged, not all, and none; the choice met also each number of a
+ * second sheet whose first passes, handed back either sheet, also where the rounds written would
+ * have it the other, and met equal rounds and the same sheet twice; and the header read N from sound
+ * tickets and other bytes. */
 #define _DEFAULT_SOURCE        /* for MAP_ANONYMOUS */
 #include "draw.h"
 #include <planner.h>
@@ -19,7 +21,7 @@
 #include <string.h>
 #include <sys/mman.h>
 
-enum { GUARD = 24, COUNTS_MOST = 45, NUMBERS = 22, SLICES = 4, SHEETS = 16 };
+enum { GUARD = 24, COUNTS_MOST = 45, NUMBERS = 22, SLICES = 4, SHEETS = 17 };
 enum { ARENA = 1 << 16, EDGE = 1 << 12 };   /* bytes for one slice; bytes after it that nobody may touch */
 
 /* CHOOSE_SECOND is planner_choose where the first sheet passes and the second is refused. */
@@ -47,6 +49,10 @@ static struct {
     unsigned long later, earlier[2];           /* sheets for a later stop; an earlier one: 0, 15 */
     unsigned long reads[READS];
     unsigned long marks[2], passes, chosen[2], equal, same;
+    unsigned long all_charged, some_charged, none_charged;     /* sheets that pass, with rounds */
+    unsigned long idle_after, fetching_after;  /* plans' sheets with such rounds after them */
+    unsigned long against[2];                  /* choices against the rounds written */
+    unsigned long tied;                        /* choices of equal rounds, with others written */
 } run;
 
 /* ---- Lent slices ---- */
@@ -273,11 +279,12 @@ static const struct ref_counts *plans_of(struct part part)
 }
 
 /* Demand 3: "the rounds given with the pass are compared with the short plan's, and the fetches
- * on each disk with the sparing plan's", of the plans up to the same stop. */
+ * on each disk with the sparing plan's", of the plans up to the same stop; "the claim of fewest
+ * rounds" uses "the charged number". */
 static bool unbeaten(struct part part, const struct ref_counts *sheet)
 {
     const struct ref_counts *plan = plans_of(part);
-    bool good = sheet->rounds >= plan[REF_P_MIN].rounds;
+    bool good = sheet->charged >= plan[REF_P_MIN].charged;
 
     for (unsigned d = 0; d < REF_DISKS; d++)
         good = good && sheet->fetches[d] >= plan[REF_P_CON].fetches[d];
@@ -290,6 +297,23 @@ struct checked {
     unsigned number;
     struct ref_counts counts;
 };
+
+/* The rounds that are written in a sheet, which has them. */
+static unsigned written_in(struct bytes sheet)
+{
+    return (unsigned)sheet.at[0] << 4 | sheet.at[1] >> 4;
+}
+
+/* Counts a sheet that passes. */
+static void count_pass(const struct checked *c)
+{
+    unsigned written = written_in(c->sheet), charged = c->counts.charged;
+
+    run.passes++;
+    run.all_charged += written > 0 && charged == written;
+    run.some_charged += charged > 0 && charged < written;
+    run.none_charged += written > 0 && charged == 0;
+}
 
 static struct checked try_check(struct part part, struct bytes sheet)
 {
@@ -309,7 +333,7 @@ static struct checked try_check(struct part part, struct bytes sheet)
     if (want.number == 0) {
         ref_checked_numbers(&want.counts, numbers);
         ref_fill_counts(numbers, REF_CHECKED_NUMBERS, s[2].want, s[2].len);
-        run.passes++;
+        count_pass(&want);
         if (!unbeaten(part, &want.counts)) {
             printf("DISAGREE: a sheet that passes beats a plan (demand 3)\n");
             fail(CHECK, s, 3);
@@ -326,17 +350,32 @@ static struct checked try_check(struct part part, struct bytes sheet)
 static const char *broken_promise(struct part part, const struct checked *first,
                                   const struct checked *second, unsigned number, unsigned which)
 {
-    unsigned r1 = first->counts.rounds, r2 = second->counts.rounds;
+    unsigned r1 = first->counts.charged, r2 = second->counts.charged;
 
     if (number != (first->number != 0 ? first->number : second->number))
         return "the choice has another number than the check";
     if (number != 0)
         return NULL;
-    if (which == 1 && r1 == plans_of(part)[REF_P_MIN].rounds && r2 != r1)
+    if (which == 1 && r1 == plans_of(part)[REF_P_MIN].charged && r2 != r1)
         return "the short plan's sheet is first, and one with other rounds is handed back";
     if (which == 0 ? r1 > r2 : r2 > r1)
         return "the sheet handed back takes more rounds than the other";
     return NULL;
+}
+
+/* Counts a choice that is not refused. */
+static void count_choice(const struct checked *first, const struct checked *second, unsigned which)
+{
+    bool same = first->sheet.at == second->sheet.at;
+    bool equal = first->counts.charged == second->counts.charged;
+    unsigned w1 = written_in(first->sheet), w2 = written_in(second->sheet);
+
+    run.chosen[which]++;
+    run.equal += !same && equal;
+    run.same += same;
+    run.tied += equal && w1 != w2;
+    if (which != (w2 <= w1))
+        run.against[which]++;
 }
 
 /* Both were checked for this ticket and stop. The same sheet twice is lent as the same memory. */
@@ -368,9 +407,7 @@ static void try_choose(struct part part, struct checked first, struct checked se
     if (want == 0) {
         ref_chosen_numbers(&chosen, numbers);
         ref_fill_counts(numbers, REF_CHOSEN_NUMBERS, s[3].want, s[3].len);
-        run.chosen[chosen.which]++;
-        run.equal += !same && first.counts.rounds == second.counts.rounds;
-        run.same += same;
+        count_choice(&first, &second, chosen.which);
     }
     count_stop(CHOOSE, part, want);
     compare(want != 0 && first.number == 0 ? CHOOSE_SECOND : CHOOSE, have, want, s, 4);
@@ -439,7 +476,8 @@ static void try_rooms(struct part part, size_t ns, size_t np)
     try_room(part, ns, np);
 }
 
-/* The job's sheets, the short plan's first, and those of them that passed. */
+/* The job's sheets, the short plan's first, a plan's with rounds after it last, and those of them that
+ * passed. */
 static struct {
     uint8_t bytes[SHEETS][REF_SHEET + SPARE];
     struct checked all[SHEETS], passed[SHEETS];
@@ -479,6 +517,33 @@ static void try_schedule(struct part part, const struct ref_job *job, enum endin
     try_sheet(part, sheet, len);
 }
 
+/* The schedule of a plan with rounds put after it, idle or not: its sheet passes, charged as the plan,
+ * with the fetches of all rounds. */
+static void try_longer(struct part part, const struct ref_job *job)
+{
+    static struct ref_action schedule[REF_ROUNDS * REF_DISKS];
+    struct ref_counts want;
+    struct checked have;
+    unsigned rounds, late = 0;
+
+    ref_run(job, (enum ref_rule)below(&run.chance, 2), schedule, &want);
+    rounds = draw_longer(&run.chance, job, schedule, want.charged);
+    for (unsigned k = want.charged * job->disks; k < rounds * job->disks; k++)
+        if (schedule[k].fetch != REF_NONE) {
+            want.fetches[k % job->disks]++;
+            late++;
+        }
+    *(late > 0 ? &run.fetching_after : &run.idle_after) += rounds > want.charged;
+    try_kept(part, ref_write_sheet(schedule, rounds, job->disks, kept.bytes[kept.how_many],
+                                   REF_SHEET));
+    have = kept.all[kept.how_many - 1];
+    if (have.number != 0 || memcmp(&have.counts, &want, sizeof want) != 0) {
+        printf("DISAGREE: a plan's sheet with rounds after it is refused, or has other counts\n");
+        say_replay();
+        exit(1);
+    }
+}
+
 static struct checked one_of(const struct checked *sheets, unsigned how_many)
 {
     return sheets[below(&run.chance, how_many)];
@@ -491,19 +556,21 @@ static struct checked checked_for(struct part part, struct checked c)
     return c;
 }
 
-/* Choices between the kept sheets: the short plan's and one that passes, one that passes and any,
- * any two; and any two for the damaged ticket, and for a stop above N. */
+/* Choices between the kept sheets: the short plan's, or a plan's with rounds after it, and one that
+ * passes, one that passes and any, any two; and any two for the damaged ticket, and for a stop above
+ * N. */
 static void try_choices(struct part part, struct part worse, struct part above)
 {
-    for (unsigned k = 0; k < 5; k++) {
-        struct part other = k == 3 ? worse : above;
+    for (unsigned k = 0; k < 6; k++) {
+        struct part other = k == 4 ? worse : above;
         struct checked first = k == 0 ? kept.all[0]
-                             : k == 1 ? one_of(kept.passed, kept.passes)
+                             : k == 1 ? kept.all[kept.how_many - 1]
+                             : k == 2 ? one_of(kept.passed, kept.passes)
                              : one_of(kept.all, kept.how_many);
-        struct checked second = k == 0 ? one_of(kept.passed, kept.passes)
-                                       : one_of(kept.all, kept.how_many);
+        struct checked second = k < 2 ? one_of(kept.passed, kept.passes)
+                                      : one_of(kept.all, kept.how_many);
 
-        if (k < 3)
+        if (k < 4)
             try_choose(part, first, second);
         else
             try_choose(other, checked_for(other, first), checked_for(other, second));
@@ -573,11 +640,12 @@ static void try_job(uint64_t number)
         try_sheet(part, sheets[k], planned.sheet_length[k]);
     for (int ending = FINISHED; ending <= UNFINISHED; ending++)
         try_schedule(part, &job, (enum ending)ending);
+    try_two_stops(part, &job);
+    try_longer(part, &job);
     memcpy(bad, ticket, part.ticket.len);
     worse.ticket.len = damage_ticket(&run.chance, &job, bad, part.ticket.len);
     worse.stop = one_in(&run.chance, 2) ? part.stop : above.stop;
     try_parts(part, worse, above, &planned);
-    try_two_stops(part, &job);
     try_reading(part.ticket, worse.ticket, &job);
 }
 
@@ -636,9 +704,17 @@ static bool all_else_met(void)
            run.marks[REF_P_CON], run.passes);
     printf("  first sheets chosen %lu, second %lu; of equal rounds %lu, the same sheet twice %lu\n",
            run.chosen[0], run.chosen[1], run.equal, run.same);
-    return run.later > 0 && run.earlier[0] > 0 && run.earlier[1] > 0 && run.reads[SOUND] > 0 &&
-           run.reads[OTHER] > 0 && run.reads[ZERO] > 0 && run.chosen[0] > 0 &&
-           run.chosen[1] > 0 && run.equal > 0 && run.same > 0;
+    printf("  sheets of which all rounds are charged %lu, some %lu, none %lu; plans' sheets with idle "
+           "rounds after them %lu, with fetching ones %lu\n", run.all_charged, run.some_charged,
+           run.none_charged, run.idle_after, run.fetching_after);
+    printf("  choices against the rounds written: first sheets %lu, second %lu; of equal rounds, with "
+           "others written %lu\n", run.against[0], run.against[1], run.tied);
+    return run.all_charged > 0 && run.some_charged > 0 && run.none_charged > 0 &&
+           run.idle_after > 0 && run.fetching_after > 0 && run.against[0] > 0 &&
+           run.against[1] > 0 && run.tied > 0 && run.later > 0 && run.earlier[0] > 0 &&
+           run.earlier[1] > 0 && run.reads[SOUND] > 0 && run.reads[OTHER] > 0 &&
+           run.reads[ZERO] > 0 && run.chosen[0] > 0 && run.chosen[1] > 0 && run.equal > 0 &&
+           run.same > 0;
 }
 
 int main(int argc, char **argv)

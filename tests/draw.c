@@ -183,7 +183,7 @@ struct run {
     bool in[REF_BLOCKS];
     unsigned held[REF_DISKS], next_read;
     unsigned idle;             /* one action in so many is idle, where allowed */
-    unsigned beside_empty;     /* one fetch in so many discards beside an empty slot: 20 */
+    unsigned beside_empty;     /* one fetch in so many discards beside an empty slot: 20; 0: none */
     unsigned wise;             /* the discarded block is the last due of so many */
 };
 
@@ -251,12 +251,22 @@ static struct ref_action draw_action(struct chance *c, const struct run *run, un
                              ? due_block(c, run, d) : some_block(c, run, d, false));
     if (a.fetch == REF_NONE)
         return a;
-    if (run->held[d] == run->job->slots[d] || (run->held[d] > 0 && one_in(c, run->beside_empty)))
+    if (run->held[d] == run->job->slots[d] ||
+        (run->held[d] > 0 && run->beside_empty > 0 && one_in(c, run->beside_empty)))
         a.discard = (uint16_t)some_victim(c, run, d);
     if (a.discard != REF_NONE && !demanded && run->wise > 1 &&
         due_in(run, a.discard) < due_in(run, a.fetch))
         return (struct ref_action){REF_NONE, REF_NONE};
     return a;
+}
+
+static void act(struct run *run, unsigned d, struct ref_action a)
+{
+    if (a.discard != REF_NONE)
+        run->in[a.discard] = false;
+    if (a.fetch != REF_NONE)
+        run->in[a.fetch] = true;
+    run->held[d] += (a.fetch != REF_NONE) - (a.discard != REF_NONE);
 }
 
 static void play_round(struct chance *c, struct run *run, bool demand, struct ref_action *actions)
@@ -268,22 +278,48 @@ static void play_round(struct chance *c, struct run *run, bool demand, struct re
         bool demanded = demand && next < job->stop && job->disk[job->reference[next]] == d;
         struct ref_action a = draw_action(c, run, d, demanded);
 
-        if (a.discard != REF_NONE)
-            run->in[a.discard] = false;
-        if (a.fetch != REF_NONE)
-            run->in[a.fetch] = true;
-        run->held[d] += (a.fetch != REF_NONE) - (a.discard != REF_NONE);
+        act(run, d, a);
         actions[d] = a;
     }
     while (run->next_read < job->stop && run->in[job->reference[run->next_read]])
         run->next_read++;
 }
 
+/* Rounds after the last reference, put after those that a schedule has: idle all of them, one in
+ * two, or as it comes. */
+static unsigned draw_after(struct chance *c, struct run *run, struct ref_action *schedule,
+                           unsigned rounds)
+{
+    unsigned more = one_in(c, 30) ? REF_ROUNDS : between(c, 1, 9), idle = below(c, 3);
+    unsigned disks = run->job->disks;
+
+    for (; more > 0 && rounds < REF_ROUNDS; more--, rounds++) {
+        struct ref_action *actions = schedule + rounds * disks;
+
+        if (idle == 0 || (idle == 1 && one_in(c, 2)))
+            for (unsigned d = 0; d < disks; d++)
+                actions[d] = (struct ref_action){REF_NONE, REF_NONE};
+        else
+            play_round(c, run, false, actions);
+    }
+    return rounds;
+}
+
+unsigned draw_longer(struct chance *c, const struct ref_job *job, struct ref_action *schedule,
+                     unsigned rounds)
+{
+    struct run run = {.job = job, .next_read = job->stop, .idle = between(c, 1, 6), .wise = 1};
+
+    for (unsigned k = 0; k < rounds * job->disks; k++)
+        act(&run, k % job->disks, schedule[k]);
+    return draw_after(c, &run, schedule, rounds);
+}
+
 unsigned draw_schedule(struct chance *c, const struct ref_job *job, enum ending ending,
                        struct ref_action *schedule)
 {
     struct run run = {.job = job};
-    unsigned rounds = 0, more = 0, lazy = between(c, 2, 6);
+    unsigned rounds = 0, lazy = between(c, 2, 6);
 
     run.wise = one_in(c, 2) ? 1 : between(c, 2, 4);
     run.beside_empty = one_in(c, 5) ? between(c, 1, 100) : SELDOM;
@@ -297,11 +333,7 @@ unsigned draw_schedule(struct chance *c, const struct ref_job *job, enum ending 
     }
     if (ending == UNFINISHED && rounds > 0)
         return below(c, rounds);
-    if (ending == LATE)
-        more = one_in(c, 30) ? REF_ROUNDS : between(c, 1, 9);
-    for (; more > 0 && rounds < REF_ROUNDS; more--, rounds++)
-        play_round(c, &run, false, schedule + rounds * job->disks);
-    return rounds;
+    return ending == LATE ? draw_after(c, &run, schedule, rounds) : rounds;
 }
 
 static void spoil_action(struct chance *c, const struct ref_job *job, struct ref_action *a)

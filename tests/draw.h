@@ -23,10 +23,15 @@ size_t draw_stop_above(struct chance *c, unsigned references);
 /* A schedule of allowed actions up to the job's stop, but that one in five may discard beside an empty slot, which the
  * check refuses; gives its rounds, at most REF_ROUNDS.
  * FINISHED ends with the round that consumes the last reference before the stop, LATE has rounds
- * after it, UNFINISHED leaves references (unless there are none). */
+ * after it, idle or not, UNFINISHED leaves references (unless there are none). */
 enum ending { FINISHED, LATE, UNFINISHED };
 unsigned draw_schedule(struct chance *c, const struct ref_job *job, enum ending ending,
                        struct ref_action *schedule);
+
+/* Puts rounds of allowed actions, idle or not, after a schedule that consumes the last reference before
+ * the stop, unless it has REF_ROUNDS; gives its rounds. */
+unsigned draw_longer(struct chance *c, const struct ref_job *job, struct ref_action *schedule,
+                     unsigned rounds);
 
 /* Changes an action, and maybe some after it, mostly into ones that the check refuses. */
 void spoil_schedule(struct chance *c, const struct ref_job *job, struct ref_action *schedule,

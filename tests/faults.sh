@@ -72,7 +72,7 @@ build '' && "$dir/differential" 1 1000 >"$dir/report" || { cat "$dir/report"; ec
 [ $? -eq 1 ] && grep -q '^FAIL' "$dir/report" || { echo "one job is taken for enough"; exit 1; }
 
 # A plan that does not end is cut at N rounds: its sheet is then too long for the room.
-at_most_n='s/(begin\(job, &r\); r.next_read < job->stop)(; schedule)/\1 \&\& counts->rounds < job->stop\2/'
+at_most_n='s/(begin\(job, &r\); r.next_read < job->stop)(; schedule)/\1 \&\& counts->charged < job->stop\2/'
 
 fault '14 not tested' 'reference 14' 's/return 14;/return 0;/'
 fault '20 not tested' 'number: library [01].*, reference 20' 's/return 20;/;/'
@@ -87,12 +87,12 @@ fault 'lowest number among several nevers' 'DISAGREE: s' 's/(distance\[b\] )>=( 
 fault 'P-CON never waits' 'DISAGREE' 's/rule == REF_P_CON && waits/false \&\& waits/'
 fault 'positions in eight bits' 'number: library 17, reference 0' "/^static void build_lookup/,/^}/s/\\(uint16_t\\)/(uint8_t)/;$at_most_n"
 fault 'the position 2048 held as 0' 'number: library 17, reference 0' "s/\\(uint16_t\\)job->stop/(uint16_t)(job->stop % 2048)/;$at_most_n"
-fault 'the mark of equal rounds' 'DISAGREE: counts' 's/p->mark = choice\(p->counts\)/p->mark = p->counts[1].rounds < p->counts[0].rounds/'
+fault 'the mark of equal rounds' 'DISAGREE: counts' 's/p->mark = choice\(p->counts\)/p->mark = p->counts[1].charged < p->counts[0].charged/'
 fault '18 tested before 17' 'number: library 18, reference 17' \
     's/p->sheet_length\[k\] > room\[k\]/p->sheet_length[1 - k] > room[1 - k]/;s/return 17 \+ k/return 18 - k/'
 fault 'exact room refused' 'number: library 17, reference 0' 's/p->sheet_length\[k\] > room/p->sheet_length[k] >= room/'
 fault 'short sheet written although 18' 'DISAGREE: short sheet' \
-    '/^unsigned ref_plan/,/^}/s/^    if \(number != 0\)$/    if (number == 18) ref_write_sheet(drawn.schedule[0], drawn.planned.counts[0].rounds, drawn.job.disks, p_min, ns);\n&/'
+    '/^unsigned ref_plan/,/^}/s/^    if \(number != 0\)$/    if (number == 18) ref_write_sheet(drawn.schedule[0], drawn.planned.counts[0].charged, drawn.job.disks, p_min, ns);\n&/'
 fault 'a byte past the sheet changed' 'DISAGREE: s' \
     '/^size_t ref_write_sheet/,/^}/s/memset\(buf, 0, len\)/memset(buf, 0, len < room ? len + 1 : len)/'
 fault 'a byte past the lent buffer changed' '(a guard)\|STOPPED' \
@@ -113,7 +113,7 @@ fault 'counts past the numbers zeroed' 'DISAGREE: counts' \
 # The choice
 second_first='s/sheet\[k\], len\[k\], &counts\[k\]/sheet[1 - k], len[1 - k], \&counts[1 - k]/'
 second_forgiven='s/(number == 0 && k < 2); k\+\+/\1; number *= 1 - k, k++/'
-fault 'a tie goes to the first' 'DISAGREE: counts' 's/out->which = choice\(counts\)/out->which = counts[1].rounds < counts[0].rounds/'
+fault 'a tie goes to the first' 'DISAGREE: counts' 's/out->which = choice\(counts\)/out->which = counts[1].charged < counts[0].charged/'
 fault 'the second checked first' 'DISAGREE: number' "$second_first"
 fault 'a failure of the second forgiven' 'number: library 0, reference' "$second_forgiven"
 fault "the other sheet's length" 'DISAGREE: counts' 's/len\[out->which\]/len[1 - out->which]/'
@@ -184,6 +184,77 @@ fault '21 tested after 9' 'number: library 9, reference 21' "$(before ref_check 
 fault '21 tested after 9 of the first sheet' 'number: library 9, reference 21' "$(before ref_choose 'm1 < 2' 9)"
 fault '21 tested after 9 of the second sheet' 'number: library 9, reference 21' "$(before ref_choose 'm2 < 2' 9)"
 
+# The rounds charged
+in_rounds='/^static unsigned check_rounds/,/^}/'
+written_1='(first[0] << 4 | first[1] >> 4)' written_2='(second[0] << 4 | second[1] >> 4)'
+
+# charged EXPRESSION - the script that has the check give this for the rounds charged; counts->charged is the right number.
+charged() {
+    printf '%ss/^    return closes\\(r\\) .*/    counts->charged = (uint16_t)(%s);\\n&/' "$in_rounds" "$1"
+}
+
+# counted_late EXPRESSION - the script that has a fetch after the last reference counted where this holds.
+counted_late() {
+    printf '%ss/\\+= a.fetch != REF_NONE/+= a.fetch != REF_NONE \\&\\& (left || (%s))/' "$in_rounds" "$1"
+}
+
+# chosen EXPRESSION - the script that has the second sheet handed back where this holds.
+chosen() {
+    printf 's/out->which = choice\\(counts\\)/out->which = %s/' "$1"
+}
+
+# all_of SHEET ROUNDS - the script that has these rounds of a sheet of a choice, 0 or 1, charged.
+all_of() {
+    printf '/^unsigned ref_choose/,/^}/s/number = check_sheet\\(.*\\);/&\\n    if (number == 0) counts[%s].charged = (uint16_t)%s;/' "$1" "$2"
+}
+busy="${in_rounds}{s/^        bool left = .*/&\\n        bool busy = false;/;s/^            counts->fetches.*/&\\n            busy = busy || a.fetch != REF_NONE;/}"
+one_early=$(charged 'counts->charged - (counts->charged > 0)')
+reading_rounds="${in_rounds}{s/bool left = .*/unsigned before = next_read;/;s/^        if \\(left \\&\\& .*/        if (next_read > before)/;s/= \\(uint16_t\\)round;/+= 1;/}"
+past_charged="${in_rounds}{s/^    unsigned next_read = 0;/    unsigned next_read = 0, whole = 0;/
+    s/^        if \\(left \\&\\& .*/        left = whole < job->references \\&\\& s.resident[job->reference[whole]];\\n/
+    s/^            counts->charged = .*/        while (whole < job->references \\&\\& s.resident[job->reference[whole]])\\n            whole++;\\n        if (left)\\n&/}"
+fault 'all rounds written are charged, as before L7' 'DISAGREE: counts' "$(charged written)"
+fault 'one round more is charged, where one is written' 'DISAGREE: counts' "$(charged 'counts->charged + (counts->charged < written)')"
+fault 'one round less is charged' 'DISAGREE: counts' "$one_early"
+fault 'none charged only where none is written' 'DISAGREE: counts' "$(charged 'job->stop == 0 ? written : counts->charged')"
+fault 'no references are charged, but for a stop of 0 none' 'DISAGREE: counts' "$(charged 'job->references == 0 ? written : counts->charged')"
+fault 'a stop of 0 is charged, if there are references' 'DISAGREE: counts' "$(charged 'job->stop == 0 \&\& job->references > 0 ? written : counts->charged')"
+fault 'charged up to the last round in which a disk fetches' 'DISAGREE: counts' "$busy
+    ${in_rounds}s/^        if \\(left \\&\\& .*/        if (busy)/"
+fault 'rounds in which no disk fetches not charged' 'DISAGREE: counts' "$busy
+    ${in_rounds}{s/^        if \\(left \\&\\& .*/        if (left \\&\\& busy)/;s/= \\(uint16_t\\)round;/+= 1;/}"
+fault 'rounds in which nothing is consumed not charged' 'DISAGREE: counts' "$reading_rounds"
+fault 'charged up to references past the stop' 'DISAGREE: counts' "$past_charged"
+fault 'the last eight bits of the rounds charged' 'DISAGREE: counts' "$(charged 'counts->charged \& 255')"
+fault 'fetches counted to the last reference only' 'DISAGREE: counts' "$(counted_late false)"
+fault 'fetches after the last reference counted into empty slots only' 'DISAGREE: counts' "$(counted_late 'a.discard == REF_NONE')"
+fault 'fetches after the last reference counted on disk 0 only' 'DISAGREE: counts' "$(counted_late 'd == 0')"
+fault 'rounds after the last reference not read' 'number: library 16, reference 0' "${in_rounds}s/^        bool left = .*/&\\n        if (!left) break;/"
+fault 'rounds after the last reference refused' 'number: library 15, reference 0' "${in_rounds}s/^        bool left = .*/&\\n        if (!left) return 15;/"
+for number in 11 12 13 14 20; do
+    fault "$number not tested after the last reference" "number: library .*, reference $number" \
+        "${in_rounds}s/^            if \\(number != 0\\)/            if (number == $number \\&\\& !left) number = 0, a = (struct ref_action){REF_NONE, REF_NONE};\\n&/"
+done
+fault '9 not tested after the last reference' 'number: library 0, reference 9' \
+    "${in_rounds}s/^            if \\(number != 0\\)/            if (number == 9 \\&\\& !left) return 0;\\n&/"
+fault '16 not tested where rounds follow the last reference' 'number: library 0, reference 16' \
+    "${in_rounds}s/return closes\\(r\\) \\? 0 : 16/return counts->charged < written || closes(r) ? 0 : 16/"
+fault 'chosen by the rounds written' 'DISAGREE: counts' "$(chosen "$written_2 <= $written_1")"
+fault 'a tie goes to the sheet with no more rounds written' 'DISAGREE: counts' \
+    "$(chosen "counts[1].charged < counts[0].charged || (counts[1].charged == counts[0].charged \\&\\& $written_2 <= $written_1)")"
+fault 'all rounds of the first sheet of a choice are charged' 'DISAGREE: counts' "$(all_of 0 "$written_1")"
+fault 'all rounds of the second sheet of a choice are charged' 'DISAGREE: counts' "$(all_of 1 "$written_2")"
+
+# A plan's sheet with rounds after it is charged as the plan, and a plan is not beaten by rounds that are not charged.
+both 'all rounds written are charged' 'with rounds after it is refused, or has other counts' "$(charged written)"
+both 'none charged only where none is written' 'with rounds after it is refused, or has other counts' "$(charged 'job->stop == 0 ? written : counts->charged')"
+both 'fetches counted to the last reference only' 'with rounds after it is refused, or has other counts' "$(counted_late false)"
+both 'rounds after the last reference refused' 'is refused up to\|with rounds after it is refused, or has other counts' \
+    "${in_rounds}s/^        bool left = .*/&\\n        if (!left) return 15;/"
+both 'one round less is charged' 'beats a plan (demand 3)' "$one_early"
+both 'rounds in which nothing is consumed not charged' 'beats a plan (demand 3)' "$reading_rounds"
+both 'chosen by the rounds written' 'one with other rounds is handed back\|takes more rounds than the other' "$(chosen "$written_2 <= $written_1")"
+
 # Demand 3: a sheet beats the wrong plan.
 on_demand='if (view[d].u != REF_NONE \&\& r->l.distance[view[d].u] != before) view[d].u = REF_NONE;'
 both 'demand-only fetching' 'beats a plan (demand 3)' "s/^    survey\\(.*/&\\nfor (unsigned d = 0; d < job->disks; d++) $on_demand/"
@@ -200,7 +271,7 @@ both 'a failure of the second forgiven' 'another number than the check' "$second
 both 'always the first' 'takes more rounds than the other' 's/out->which = choice\(counts\)/out->which = 0/'
 both "always the second after the short plan's rounds" 'one with other rounds is handed back' \
     's/^    out->which = choice\(counts\);/    struct ref_action a[REF_ROUNDS * REF_DISKS];\n    struct ref_counts c;\n'\
-'    ref_run(\&job, REF_P_MIN, a, \&c);\n    out->which = c.rounds == counts[0].rounds ? 1 : choice(counts);/'
+'    ref_run(\&job, REF_P_MIN, a, \&c);\n    out->which = c.charged == counts[0].charged ? 1 : choice(counts);/'
 
 # The number of references, as the header reads it
 header 'N a bit too early' 'planner_references gives' 's/14 \+ 7 \* disks/13 + 7 * disks/'

@@ -36,6 +36,15 @@ fault 'sheets written although 19' "$another" 's/^    if \(length > ng\)/    wri
 fault 'a byte past the page changed' "$another" 's/^    write_page\(&drawn.*/&\n    if (length < ng) page[length] = 10;/'
 fault 'the last sixteen bits of the length' "$another" 's/out->length = length/out->length = length % 65536/'
 
+# The rounds of a plan, all of which are charged
+idle_end='s/^        counts->charged\+\+;/&\n        if (r.next_read == job->stop \&\& counts->charged < REF_ROUNDS)\n            memset(schedule + job->disks, 0xff, job->disks * sizeof *schedule);/
+    s/\(size_t\)p->counts\[k\].charged \*/(size_t)(p->counts[k].charged + (p->counts[k].charged > 0)) */
+    s/drawn->planned.counts\[k\].charged, drawn/drawn->planned.counts[k].charged + (drawn->planned.counts[k].charged > 0), drawn/'
+fault 'either plan ends in an idle round' "$another" "$idle_end"
+for k in 0 1; do
+    fault "one round less of plan $k charged" "$another" "${in_page}s/^    out->planned = .*/&\\n    out->planned.counts[$k].charged -= out->planned.counts[$k].charged > 0;/"
+done
+
 # The stop
 in_reading='/^unsigned ref_read_ticket/,/^}/'
 fault 'the stop not looked at' "$another" "${in_reading}s/^    job->stop = .*/    job->stop = job->references;/"

@@ -62,6 +62,15 @@ show()
     run sheet "$@" "$out/ticket" "$out/sheet"
 }
 
+# ends TITLE TICKET SHEET: the last rows and the totals of a long sheet.
+ends()
+{
+    echo "== $1"
+    unhex "$2" >"$out/ticket"
+    unhex "$3" >"$out/sheet"
+    run eval 'sheet "$out/ticket" "$out/sheet" | tail -n 5'
+}
+
 # Cases A to G: from text to ticket and back, and both sheets.
 cases()
 {
@@ -249,7 +258,7 @@ tickets()
     show 'a sheet for a damaged ticket' 102009001000 001800
 }
 
-# Damaged sheets, in the order of the numbers 9 to 16 and 20, and odd ones that pass.
+# Damaged sheets, in the order of the numbers 9 to 16 and 20, and names that do not fit.
 sheets()
 {
     show '9: empty' "$G" ''
@@ -270,8 +279,37 @@ sheets()
     show '20: a discard beside an empty slot' "$F" 00440480101c0500c01011024040
     show '20: before the end inside the discarded block' "$A" 001802
     show '20: before 14' "$A" 00180200
-    show 'rounds after the last reference' "$A" 00380000
     show 'names for other blocks' "$A" 001800 -n cases/G.names
+}
+
+# Rounds after the last reference, which are not charged, and idle ones before it, which are. In case C block 0 is read, then 1, then 0. In case D the
+# last reference is consumed in round 2, and disk 0 then holds block 1, disk 1 block 3.
+charged()
+{
+    show 'two idle rounds at the end' "$A" 00380000
+    show 'two idle rounds at the end, with names' "$G" "0088${G_P_MIN#0068}" -n cases/G.names
+    show 'a fetch at the end' "$C" 00480100c010040300c000
+    show 'an idle round, a fetch and an idle round at the end' "$C" 00680100c0100402806000
+    show 'idle rounds before the last reference' "$C" 005400403004010080
+    show 'an idle round before the last reference, and two after it' "$C" 006800806008020100
+    show 'nothing to read, and an idle round' "$B" 0010
+    show 'nothing to read, and a fetch between idle rounds' "$B" 00340000
+    show 'a stop at the start, and the sheet of all of F' "$F" "$F_P_MIN" -s 0
+    show 'the sheet of all of F up to 1' "$F" "$F_P_MIN" -s 1
+    show 'the sheet of all of F up to 6' "$F" "$F_P_MIN" -s 6
+    ends '2048 rounds, of which the first 300 are charged' "$A" "8000$(printf '%072d' 0)01$(printf '%0440d' 0)"
+    ends '2048 rounds, all of them charged' "$A" "8000$(printf '%0510d' 0)1000"
+    show '9: after the last reference' "$A" 003800
+    show '11: a block of the other disk, after the last reference' "$D" 003801012018020380a02804
+    show '11: a block that is not there, after the last reference and an idle round' "$D" 00480101201802038084090180
+    show '12: after the last reference' "$C" 00580100c01004028000
+    show '13: after the last reference' "$D" 003801012018020380a000
+    show '14: a block of the other disk, after the last reference' "$D" 003801012018020380a0080c
+    show '14: the fetched block itself, after the last reference and an idle round' "$D" 00480101201802038084050100
+    show '15: idle rounds do not read' "$A" 0020
+    show '16: a byte after idle rounds' "$C" 00480100c010040200
+    show '20: after the last reference before the stop' "$F" 00280101101c04 -s 1
+    show '20: nothing to read, and after an idle round' "$B" 0024010000
 }
 
 # Stops: sheets up to them, the numbers that come with them, and the order of 8, 21 and 9.
@@ -317,10 +355,11 @@ vector()
     sed -n "s/^$1 //p" cases/vectors.txt | cut -d ' ' -f "$2"
 }
 
-A=$(vector A 1) B=$(vector B 1) F=$(vector F 1) G=$(vector G 1) G_P_MIN=$(vector G 2) G_P_CON=$(vector G 3)
+A=$(vector A 1) B=$(vector B 1) C=$(vector C 1) D=$(vector D 1) F=$(vector F 1) F_P_MIN=$(vector F 2)
+G=$(vector G 1) G_P_MIN=$(vector G 2) G_P_CON=$(vector G 3)
 G_TO_13=0058010220140a809032038090140703c0c0
 bad=0
-for group in cases good texts passes tickets sheets stops usage; do
+for group in cases good texts passes tickets sheets charged stops usage; do
     $group >"$out/$group.out"
     diff -u "expected/$group.out" "$out/$group.out" || bad=1
 done

@@ -1,5 +1,5 @@
 /* sheet.c - a sheet shown as a table of rounds, in the manner of Figure 1 of document 000, for a
- * whole job or up to a stop. */
+ * whole job or up to a stop; below it the rounds that are charged, and the fetches of all rounds. */
 #include "job.h"
 
 #include <stdio.h>
@@ -24,6 +24,7 @@ struct play {
     unsigned fetches[MAX_DISKS];
     unsigned stop;             /* how many references count */
     unsigned next_read;
+    unsigned charged;          /* the last round in which a reference was consumed, 0 if none was */
     int width;                 /* of a disk's column */
 };
 
@@ -116,8 +117,9 @@ static void act(struct play *play, unsigned d, struct action action)
     printf("  %-*s", play->width, cell);
 }
 
-/* References are consumed up to the first block that is not resident, or to the stop. */
-static void consume(struct play *play)
+/* References are consumed up to the first block that is not resident, or to the stop. The last round
+ * that consumes one is the last that is charged. */
+static void consume(struct play *play, unsigned round)
 {
     const struct job *job = play->job;
     const char *before = "  ";
@@ -128,6 +130,8 @@ static void consume(struct play *play)
         before = ", ";
     }
     puts(play->next_read == first ? "  -" : "");
+    if (play->next_read > first)
+        play->charged = round;
 }
 
 static void print_header(const struct play *play)
@@ -157,13 +161,16 @@ static bool play_round(struct fields *f, struct play *play, unsigned round,
         }
         act(play, d, action);
     }
-    consume(play);
+    consume(play, round);
     return true;
 }
 
+/* The rounds charged, and those on the sheet too where these are more. */
 static void print_totals(const struct play *play, unsigned rounds)
 {
-    printf("\nrounds %u\n", rounds);
+    printf("\nrounds %u\n", play->charged);
+    if (play->charged < rounds)
+        printf("rounds on the sheet %u, not charged %u\n", rounds, rounds - play->charged);
     for (unsigned d = 0; d < play->job->disks; d++)
         printf("disk %u fetches %u\n", d, play->fetches[d]);
     if (play->stop < play->job->references)
@@ -191,7 +198,8 @@ static bool show(struct fields *f, struct play *play, struct refusal *refusal)
     if (!take(f, 12, &rounds))
         return refuse(refusal, 9, "the sheet ends inside the number of rounds");
     if (rounds > MAX_ROUNDS)
-        return refuse(refusal, 10, "a sheet has at most %d rounds, not %u", MAX_ROUNDS, rounds);
+        return refuse(refusal, 10, "at most %d rounds stand on a sheet, not %u", MAX_ROUNDS,
+                      rounds);
     print_header(play);
     for (unsigned round = 1; round <= rounds; round++)
         if (!play_round(f, play, round, refusal))
@@ -284,7 +292,8 @@ static _Noreturn void usage(void)
 {
     fputs("usage: sheet [-n names] [-s stop] ticket sheet\n"
           "  shows a sheet for a ticket as a table of rounds; names has one for each block;\n"
-          "  stop is how many references count, from the first on; without it all do\n",
+          "  stop is how many references count, from the first on; without it all do;\n"
+          "  below the table, rounds are those charged: up to the last reference that counts\n",
           stderr);
     exit(BAD_USAGE);
 }

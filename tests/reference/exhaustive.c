@@ -3,13 +3,17 @@
  * usage: exhaustive [SEED [COUNT]]
  * A state is the next read and the set of resident blocks. All states that allowed actions can
  * reach are searched, for each disk on its own for the fewest fetches there, and then for the fewest
- * rounds; and once more with discards beside an empty slot, which document 01 allows and request L3
- * does not. Exit 0 only if these are the fetches of P-CON and the rounds of P-MIN in both searches,
- * though the second reaches some states in fewer rounds, or alone; the sheets of both plans pass the
- * check with the plans' counts, the choice between them follows the rounds, and each line of the
- * page says what the sheet handed back does, with the letter of the papers; all that planning gives
- * is the same for the job that ends at the stop, and with other references from there on; and stops
- * of 0, of N and in between were met. */
+ * rounds charged; and once more with discards beside an empty slot, which document 01 allows and
+ * request L3 does not. A schedule may go on when all references before the stop are consumed: its
+ * rounds then are not charged, and its fetches count. Exit 0 only if the fewest are the fetches of
+ * P-CON and the rounds of P-MIN in both searches, though the second reaches some states in fewer
+ * rounds, or alone; the sheets of both plans pass the check with the plans' counts, and have no
+ * rounds but those charged; the way to a state that was reached, with idle rounds put in, is a sheet
+ * that passes with the rounds that the search found, and is chosen by them; the choice between the
+ * plans' sheets follows the rounds, and each line of the page says what the sheet handed back does,
+ * with the letter of the papers; all that planning gives is the same for the job that ends at the
+ * stop, and with other references from there on; and stops of 0, of N and in between, rounds after
+ * the last reference, idle and fetching, idle rounds before it, and no rounds charged were met. */
 #include "chance.h"
 #include "reference.h"
 
@@ -23,12 +27,25 @@ enum { MOST_DISKS = 3, MOST_BLOCKS = 6, MOST_REFERENCES = 20, MOST_PAST = 6 };
 enum { SETS = 1 << MOST_BLOCKS };
 enum { ROUNDS = MOST_DISKS, UNREACHED = 1000000 };
 
+/* What all disks do in one round. */
+struct round {
+    struct ref_action action[MOST_DISKS];
+};
+
+/* How a state was reached: the round, and the state at its start. */
+struct step {
+    unsigned next_read, set;
+    struct round round;
+};
+
 struct search {
     const struct ref_job *job;
     unsigned of_disk[MOST_DISKS];            /* the set of blocks on each disk */
     unsigned measure;                        /* ROUNDS, or the disk whose fetches count */
     bool beside_empty;                       /* discards beside an empty slot are allowed */
     unsigned cost[MOST_REFERENCES + 1][SETS];
+    struct step step[MOST_REFERENCES + 1][SETS];
+    struct step now;                         /* the round that is tried */
     bool changed;
 };
 
@@ -38,42 +55,50 @@ static unsigned size(unsigned set)
 }
 
 /* The end of a round: reading, then the state's cost if it is the least so far. */
-static void arrive(struct search *s, unsigned next_read, unsigned set, unsigned cost)
+static void arrive(struct search *s, unsigned set, unsigned cost)
 {
+    unsigned next_read = s->now.next_read;
+
     while (next_read < s->job->stop && set >> s->job->reference[next_read] & 1)
         next_read++;
     if (cost < s->cost[next_read][set]) {
         s->cost[next_read][set] = cost;
+        s->step[next_read][set] = s->now;
         s->changed = true;
     }
 }
 
-/* Every allowed action of disk d, each followed by every one of the disks after it. */
-static void each_action(struct search *s, unsigned d, unsigned next_read, unsigned set,
-                        unsigned cost)
+/* Every allowed action of disk d, each followed by every one of the disks after it. A round is
+ * charged if a reference is left at its start. */
+static void each_action(struct search *s, unsigned d, unsigned set, unsigned cost)
 {
     unsigned after = cost + (s->measure == d);
+    struct ref_action *a = &s->now.round.action[d];
     bool empty;
 
     if (d == s->job->disks) {
-        arrive(s, next_read, set, cost + (s->measure == ROUNDS));
+        arrive(s, set, cost + (s->measure == ROUNDS && s->now.next_read < s->job->stop));
         return;
     }
-    each_action(s, d + 1, next_read, set, cost);
+    *a = (struct ref_action){REF_NONE, REF_NONE};
+    each_action(s, d + 1, set, cost);
     empty = size(set & s->of_disk[d]) < s->job->slots[d];
     for (unsigned x = 0; x < s->job->blocks; x++) {
         if (s->job->disk[x] != d || (set >> x & 1))
             continue;
+        *a = (struct ref_action){(uint16_t)x, REF_NONE};
         if (empty)
-            each_action(s, d + 1, next_read, set | 1u << x, after);
+            each_action(s, d + 1, set | 1u << x, after);
         for (unsigned y = 0; (!empty || s->beside_empty) && y < s->job->blocks; y++)
-            if (s->job->disk[y] == d && (set >> y & 1))
-                each_action(s, d + 1, next_read, (set & ~(1u << y)) | 1u << x, after);
+            if (s->job->disk[y] == d && (set >> y & 1)) {
+                a->discard = (uint16_t)y;
+                each_action(s, d + 1, (set & ~(1u << y)) | 1u << x, after);
+            }
     }
 }
 
-/* The least rounds, or fetches on a disk, of all schedules that consume every reference before the
- * stop. */
+/* The least rounds charged, or fetches on a disk, of all schedules that consume every reference before
+ * the stop, with any rounds after that. */
 static unsigned least(struct search *s, unsigned measure)
 {
     unsigned best = UNREACHED;
@@ -85,10 +110,13 @@ static unsigned least(struct search *s, unsigned measure)
     s->cost[0][0] = 0;
     do {
         s->changed = false;
-        for (unsigned p = 0; p < s->job->stop; p++)
+        for (unsigned p = 0; p <= s->job->stop; p++)
             for (unsigned set = 0; set < 1u << s->job->blocks; set++)
-                if (s->cost[p][set] != UNREACHED)
-                    each_action(s, 0, p, set, s->cost[p][set]);
+                if (s->cost[p][set] != UNREACHED) {
+                    s->now.next_read = p;
+                    s->now.set = set;
+                    each_action(s, 0, set, s->cost[p][set]);
+                }
     } while (s->changed);
     for (unsigned set = 0; set < SETS; set++)
         if (s->cost[s->job->stop][set] < best)
@@ -163,7 +191,7 @@ static bool chooses(const struct written *w, const struct ref_planned *planned, 
  * says too. P-CON's sheet first: P-MIN's always is, as it takes no more rounds. */
 static bool choices_follow_rounds(const struct written *w, const struct ref_planned *planned)
 {
-    bool equal = planned->counts[REF_P_CON].rounds == planned->counts[REF_P_MIN].rounds;
+    bool equal = planned->counts[REF_P_CON].charged == planned->counts[REF_P_MIN].charged;
 
     return planned->mark == (equal ? REF_P_CON : REF_P_MIN) &&
            chooses(w, planned, REF_P_MIN, equal ? REF_P_CON : REF_P_MIN) &&
@@ -182,7 +210,7 @@ static bool plans_are_least(struct search *s, const struct ref_job *job,
         s->of_disk[job->disk[b]] |= 1u << b;
     for (unsigned d = 0; d < job->disks; d++)
         good = good && least(s, d) == planned->counts[REF_P_CON].fetches[d];
-    return good && least(s, ROUNDS) == planned->counts[REF_P_MIN].rounds;
+    return good && least(s, ROUNDS) == planned->counts[REF_P_MIN].charged;
 }
 
 /* The states that a takes more rounds to reach than b, or does not reach. */
@@ -196,12 +224,7 @@ static unsigned later(const struct search *a, const struct search *b)
     return states;
 }
 
-/* ---- The page, line by line ---- */
-
-enum { LETTERS = 5 };
-
-static const char letters[LETTERS + 1] = "EMSWN";
-static unsigned long letters_met[LETTERS];
+/* ---- A sheet, read once more ---- */
 
 /* The next field of a sheet. */
 static unsigned take(const uint8_t *sheet, size_t *at, unsigned width)
@@ -224,6 +247,163 @@ static struct ref_action take_action(const uint8_t *sheet, size_t *at)
     }
     return a;
 }
+
+/* The buffers after an action. */
+static unsigned after(unsigned set, struct ref_action a)
+{
+    if (a.discard != REF_NONE)
+        set &= ~(1u << a.discard);
+    if (a.fetch != REF_NONE)
+        set |= 1u << a.fetch;
+    return set;
+}
+
+/* The round of a sheet in which the last reference before the stop is consumed, 0 if there is none. */
+static unsigned last_reading(const struct ref_job *job, const uint8_t *sheet)
+{
+    unsigned set = 0, next_read = 0, last = 0;
+    size_t at = 0, written = take(sheet, &at, 12);
+
+    for (unsigned round = 1; round <= written; round++) {
+        for (unsigned d = 0; d < job->disks; d++)
+            set = after(set, take_action(sheet, &at));
+        for (; next_read < job->stop && set >> job->reference[next_read] & 1; next_read++)
+            last = round;
+    }
+    return last;
+}
+
+/* Either plan's sheet has so many rounds as are charged, and its last one consumes the last
+ * reference. */
+static bool plans_are_charged(const struct ref_job *job, const struct written *w,
+                              const struct ref_planned *planned)
+{
+    bool good = true;
+
+    for (int k = 0; k < 2; k++) {
+        size_t at = 0;
+
+        good = good && take(w->sheet[k], &at, 12) == planned->counts[k].charged &&
+               last_reading(job, w->sheet[k]) == planned->counts[k].charged;
+    }
+    return good;
+}
+
+/* ---- The ways of the search, as sheets ---- */
+
+/* No way is longer: no more rounds are charged than there are references, and after these each set
+ * comes once. */
+enum { MOST_WAY = MOST_REFERENCES + SETS, MOST_IDLE = 2 };
+
+/* A way of the search to a state at the stop, with idle rounds put in, and what the check must give
+ * for it. */
+struct way {
+    struct ref_action schedule[(MOST_IDLE + 1) * (MOST_WAY + 1) * MOST_DISKS];
+    unsigned rounds;
+    struct ref_counts want;
+    uint8_t sheet[REF_SHEET];
+    size_t length;
+};
+
+static struct {
+    unsigned long none, whole, between;   /* stops: 0, N, and others */
+    unsigned long sooner;      /* states that discards beside an empty slot reach sooner, or alone */
+    unsigned long slower, spares;
+    unsigned long waited;      /* ways with idle rounds before the last reference is consumed */
+    unsigned long idle, fetched;          /* with idle rounds after it, with fetches after it */
+    unsigned long uncharged;   /* ways that have rounds, of which none is charged */
+    unsigned long tied;        /* ways charged as P-MIN is, with more rounds */
+} met;
+
+static void put_round(const struct ref_job *job, struct way *way, const struct round *round)
+{
+    for (unsigned d = 0; d < job->disks; d++) {
+        way->schedule[way->rounds * job->disks + d] = round->action[d];
+        way->want.fetches[d] += round->action[d].fetch != REF_NONE;
+    }
+    way->rounds++;
+}
+
+/* Some idle rounds, or none; they are charged if references are left. Gives how many. */
+static unsigned put_idle(struct chance *c, const struct ref_job *job, struct way *way, bool left)
+{
+    static const struct round idle = {{{REF_NONE, REF_NONE}, {REF_NONE, REF_NONE},
+                                       {REF_NONE, REF_NONE}}};
+    unsigned more = below(c, MOST_IDLE + 1);
+
+    for (unsigned k = 0; k < more; k++)
+        put_round(job, way, &idle);
+    way->want.charged += left ? more : 0;
+    return more;
+}
+
+/* Some set that is reached with all references before the stop consumed. */
+static unsigned reached(struct chance *c, const struct search *s)
+{
+    unsigned set = below(c, SETS);
+
+    while (s->cost[s->job->stop][set] == UNREACHED)
+        set = (set + 1) % SETS;
+    return set;
+}
+
+/* The way to such a set, by a search that counts rounds. */
+static void build_way(struct chance *c, const struct search *s, struct way *way)
+{
+    unsigned set = reached(c, s), at = s->job->stop, steps = 0, waited = 0, idle = 0, fetched = 0;
+    const struct step *step[MOST_WAY];
+
+    memset(way, 0, sizeof *way);
+    way->want.charged = (uint16_t)s->cost[at][set];
+    for (; set != 0; at = step[steps]->next_read, set = step[steps]->set, steps++)
+        step[steps] = &s->step[at][set];
+    while (steps-- > 0) {
+        bool left = step[steps]->next_read < s->job->stop;
+
+        *(left ? &waited : &idle) += put_idle(c, s->job, way, left);
+        put_round(s->job, way, &step[steps]->round);
+        fetched += !left;
+    }
+    idle += put_idle(c, s->job, way, false);
+    met.waited += waited > 0;
+    met.idle += idle > 0;
+    met.fetched += fetched > 0;
+    met.uncharged += way->rounds > 0 && way->want.charged == 0;
+    way->length = ref_write_sheet(way->schedule, way->rounds, s->job->disks, way->sheet,
+                                  sizeof way->sheet);
+}
+
+/* The check gives the rounds that the search found, and the fetches of all rounds. */
+static bool way_is_charged(const struct written *w, const struct way *way)
+{
+    struct ref_counts counts;
+
+    return ref_check(w->ticket, w->n, w->stop, way->sheet, way->length, &counts) == 0 &&
+           memcmp(&counts, &way->want, sizeof counts) == 0;
+}
+
+/* Beside P-MIN's sheet: after it, it is handed back for equal rounds alone; before it, never. */
+static bool way_is_chosen(const struct written *w, const struct ref_planned *planned,
+                          const struct way *way)
+{
+    const struct ref_counts *p_min = &planned->counts[REF_P_MIN];
+    bool equal = way->want.charged == p_min->charged;
+    struct ref_chosen as_second, as_first;
+
+    met.tied += equal && way->rounds > p_min->charged;
+    return ref_choose(w->ticket, w->n, w->stop, w->sheet[REF_P_MIN],
+                      planned->sheet_length[REF_P_MIN], way->sheet, way->length, &as_second) == 0 &&
+           ref_choose(w->ticket, w->n, w->stop, way->sheet, way->length, w->sheet[REF_P_MIN],
+                      planned->sheet_length[REF_P_MIN], &as_first) == 0 &&
+           as_second.which == equal && as_first.which == 1;
+}
+
+/* ---- The page, line by line ---- */
+
+enum { LETTERS = 5 };
+
+static const char letters[LETTERS + 1] = "EMSWN";
+static unsigned long letters_met[LETTERS];
 
 /* The position of the first reference, at or after this one, to a block of the set; the stop if there
  * is none before it. */
@@ -331,10 +511,7 @@ static bool page_agrees(const struct ref_job *job, enum ref_rule rule, const uin
 
             if (!line_agrees(page, round, d, a, letter_of(job, &s, rule, a)))
                 return false;
-            if (a.discard != REF_NONE)
-                set &= ~(1u << a.discard);
-            if (a.fetch != REF_NONE)
-                set |= 1u << a.fetch;
+            set = after(set, a);
         }
         while (next_read < job->stop && set >> job->reference[next_read] & 1)
             next_read++;
@@ -418,18 +595,12 @@ static bool past_is_ignored(struct chance *c, const struct ref_job *job, const s
 
 /* ---- All of it ---- */
 
-static struct {
-    unsigned long none, whole, between;   /* stops: 0, N, and others */
-    unsigned long sooner;      /* states that discards beside an empty slot reach sooner, or alone */
-    unsigned long slower, spares;
-} met;
-
 static void count_met(const struct ref_job *job, const struct ref_planned *planned)
 {
     met.none += job->stop == 0;
     met.whole += job->stop == job->references;
     met.between += job->stop > 0 && job->stop < job->references;
-    met.slower += planned->counts[REF_P_CON].rounds > planned->counts[REF_P_MIN].rounds;
+    met.slower += planned->counts[REF_P_CON].charged > planned->counts[REF_P_MIN].charged;
     met.spares += memcmp(planned->counts[0].fetches, planned->counts[1].fetches,
                          sizeof planned->counts[0].fetches) != 0;
 }
@@ -439,6 +610,7 @@ static const char *search_job(struct chance *c, const struct ref_job *job)
 {
     static struct search now = {.beside_empty = false}, before = {.beside_empty = true};
     static struct written written;
+    static struct way way;
     struct ref_planned planned;
 
     if (!both_pass(job, &written, &planned) || !plans_are_least(&now, job, &planned))
@@ -450,7 +622,12 @@ static const char *search_job(struct chance *c, const struct ref_job *job)
         return "THE STOP IS NOT AS THE END";
     if (!past_is_ignored(c, job, &written, &planned))
         return "WHAT IS PAST THE STOP COUNTS";
-    if (!choices_follow_rounds(&written, &planned))
+    if (!plans_are_charged(job, &written, &planned))
+        return "A PLAN HAS OTHER ROUNDS THAN THOSE CHARGED";
+    build_way(c, &now, &way);
+    if (!way_is_charged(&written, &way))
+        return "OTHER COUNTS THAN THE SEARCH FOUND";
+    if (!choices_follow_rounds(&written, &planned) || !way_is_chosen(&written, &planned, &way))
         return "ANOTHER CHOICE";
     if (!page_follows(job, &written, &planned))
         return "ANOTHER PAGE";
@@ -482,11 +659,15 @@ static bool all_met(void)
     printf("  discards beside an empty slot reach %lu states sooner, or alone\n", met.sooner);
     printf("  P-CON took more rounds than P-MIN in %lu, and other fetches in %lu\n", met.slower,
            met.spares);
+    printf("  ways of the search as sheets: idle before the last reference is consumed %lu, idle "
+           "after it %lu, fetching after it %lu,\n    with no round charged %lu, charged as P-MIN "
+           "with more rounds %lu\n", met.waited, met.idle, met.fetched, met.uncharged, met.tied);
     printf("  letters met:");
     for (unsigned k = 0; k < LETTERS; k++)
         printf(" %c:%lu", letters[k], letters_met[k]);
     printf("\n");
-    return met.none > 0 && met.whole > 0 && met.between > 0 && met.sooner > 0;
+    return met.none > 0 && met.whole > 0 && met.between > 0 && met.sooner > 0 && met.waited > 0 &&
+           met.idle > 0 && met.fetched > 0 && met.uncharged > 0 && met.tied > 0;
 }
 
 int main(int argc, char **argv)
@@ -506,11 +687,12 @@ int main(int argc, char **argv)
             return report(wrong, seed, k, &job);
     }
     printf("%" PRIu64 " jobs searched (seed %" PRIu64 "): the plans are the least in all, with and "
-           "without L3, and the same whatever is past the stop;\n  the choices follow the rounds, "
-           "and the pages the sheets\n", count, seed);
+           "without L3, whatever rounds follow the last reference,\n  and the same whatever is past "
+           "the stop; the choices follow the rounds charged, and the pages the sheets\n", count,
+           seed);
     all = all_met();
     if (!all)
-        printf("FAIL: a kind of stop, or a state that is reached sooner, or only, with discards "
-               "beside an empty slot, was never met\n");
+        printf("FAIL: a kind of stop or of way, or a state that is reached sooner, or only, with "
+               "discards beside an empty slot, was never met\n");
     return !all;
 }

@@ -8,8 +8,8 @@ build=$1
 dir=$build/mutant
 missed=0
 tried=0
-cat ../vectors/L6.txt ../vectors/edges.txt ../vectors/longest.txt >"$build/all.txt" || exit 2
-grep -h '^note' ../vectors/L6.txt ../vectors/edges.txt >"$build/notes.txt" || exit 2
+cat ../vectors/L7.txt ../vectors/edges.txt ../vectors/longest.txt >"$build/all.txt" || exit 2
+grep -h '^note' ../vectors/L7.txt ../vectors/edges.txt >"$build/notes.txt" || exit 2
 
 # trial SOURCE OTHER NAME SCRIPT TEST WORDS ARGUMENT... - the changed copy of SOURCE.c, linked with OTHER, must differ and compile, and
 # the test must say what is wrong with it: a crash would not do.
@@ -63,9 +63,9 @@ demand="s/^    survey\\(.*/&\\n$each_disk $on_demand/"
 early='s/^    if \(l->distance\[v.min_block\] < /    if (rule == REF_P_MIN \&\& l->distance[v.min_block] < /
     s/if \(from_u > l->distance\[v.min_block\]\)/unsigned m = l->distance[v.min_block]; while (m < l->distance[v.u]) m = l->next[m]; if (from_u > m)/'
 # a plan that does not end is cut, so that its answer differs
-at_most_n='s/(begin\(job, &r\); r.next_read < job->stop)(; schedule)/\1 \&\& counts->rounds < job->stop\2/
+at_most_n='s/(begin\(job, &r\); r.next_read < job->stop)(; schedule)/\1 \&\& counts->charged < job->stop\2/
     s/(begin\(job, &r\); r.next_read < job->stop)(;\) \{)/\1 \&\& round < job->stop\2/'
-written_first='s/^    if \(number != 0\)$/    if (number == 18) ref_write_sheet(drawn.schedule[0], drawn.planned.counts[0].rounds, drawn.job.disks, p_min, ns);\n&/'
+written_first='s/^    if \(number != 0\)$/    if (number == 18) ref_write_sheet(drawn.schedule[0], drawn.planned.counts[0].charged, drawn.job.disks, p_min, ns);\n&/'
 n_as_e="s/return 'N'/return s->held[d] < job->slots[d] ? 'E' : 'N'/"
 n_as_s="s/return 'N'/return s->held[d] == job->slots[d] \\&\\& l->distance[v.min_block] < job->stop ? 'S' : 'N'/"
 s_as_w="s/return 'S'/return rule == REF_P_CON \\&\\& waits(job, s, l, d, v) ? 'W' : 'S'/
@@ -79,7 +79,7 @@ exchanged='/^static void put_line/,/^}/{s/a\.fetch/a.left/;s/a\.discard/a.fetch/
 of_p_con='s/rule = \(enum ref_rule\)drawn.planned.mark/rule = REF_P_CON/'
 of_p_min='s/rule = \(enum ref_rule\)drawn.planned.mark/rule = REF_P_MIN/'
 of_other='s/rule = \(enum ref_rule\)drawn.planned.mark/rule = (enum ref_rule)(1 - drawn.planned.mark)/'
-page_length='((size_t)drawn.planned.counts[choice(drawn.planned.counts)].rounds * drawn.job.disks + REF_LEGEND) * REF_LINE'
+page_length='((size_t)drawn.planned.counts[choice(drawn.planned.counts)].charged * drawn.job.disks + REF_LEGEND) * REF_LINE'
 in_page='/^unsigned ref_page/,/^}/'
 
 in_action='/^static unsigned check_action/,/^}/'
@@ -118,9 +118,50 @@ chosen() {
     printf 's/out->which = choice\\(counts\\)/out->which = %s/' "$1"
 }
 first='counts[0]' second='counts[1]'
-tie_first=$(chosen "$second.rounds < $first.rounds")
+tie_first=$(chosen "$second.charged < $first.charged")
 by_fetches="s/^    out->which = /    unsigned sum[2] = {0, 0};\\n    for (unsigned k = 0; k < 16; k++) sum[k \\/ 8] += counts[k \\/ 8].fetches[k % 8];\\n&/
     $(chosen 'sum[1] <= sum[0]')"
+
+# Scripts about the rounds charged
+in_rounds='/^static unsigned check_rounds/,/^}/'
+written_1='(first[0] << 4 | first[1] >> 4)' written_2='(second[0] << 4 | second[1] >> 4)'
+
+# charged EXPRESSION - the script that has the check give this for the rounds charged; counts->charged is the right number.
+charged() {
+    printf '%ss/^    return closes\\(r\\) .*/    counts->charged = (uint16_t)(%s);\\n&/' "$in_rounds" "$1"
+}
+
+# when_left EXPRESSION - the script that has a round charged if this holds at its start, and all references are consumed at its end.
+when_left() {
+    printf '%ss/bool left = .*/bool left = %s;/' "$in_rounds" "$1"
+}
+
+# counted_late EXPRESSION - the script that has a fetch after the last reference counted where this holds.
+counted_late() {
+    printf '%ss/\\+= a.fetch != REF_NONE/+= a.fetch != REF_NONE \\&\\& (left || (%s))/' "$in_rounds" "$1"
+}
+
+# all_of SHEET ROUNDS - the script that has these rounds of a sheet of a choice, 0 or 1, charged.
+all_of() {
+    printf '/^unsigned ref_choose/,/^}/s/number = check_sheet\\(.*\\);/&\\n    if (number == 0) counts[%s].charged = (uint16_t)%s;/' "$1" "$2"
+}
+all_charged=$(charged written)
+one_late=$(charged 'counts->charged + (counts->charged < written)')
+one_early=$(charged 'counts->charged - (counts->charged > 0)')
+none_for_none=$(charged 'job->stop == 0 ? written : counts->charged')
+no_late_fetches=$(counted_late false)
+busy="${in_rounds}{s/^        bool left = .*/&\\n        bool busy = false;/;s/^            counts->fetches.*/&\\n            busy = busy || a.fetch != REF_NONE;/}"
+reading_rounds="${in_rounds}{s/bool left = .*/unsigned before = next_read;/;s/^        if \\(left \\&\\& .*/        if (next_read > before)/;s/= \\(uint16_t\\)round;/+= 1;/}"
+past_charged="${in_rounds}{s/^    unsigned next_read = 0;/    unsigned next_read = 0, whole = 0;/
+    s/^        if \\(left \\&\\& .*/        left = whole < job->references \\&\\& s.resident[job->reference[whole]];\\n/
+    s/^            counts->charged = .*/        while (whole < job->references \\&\\& s.resident[job->reference[whole]])\\n            whole++;\\n        if (left)\\n&/}"
+by_written=$(chosen "$written_2 <= $written_1")
+idle_end='s/^        counts->charged\+\+;/&\n        if (r.next_read == job->stop)\n            memset(schedule + job->disks, 0xff, job->disks * sizeof *schedule);/
+    s/\(size_t\)p->counts\[k\].charged \*/(size_t)(p->counts[k].charged + (p->counts[k].charged > 0)) */
+    s/drawn->planned.counts\[k\].charged, drawn/drawn->planned.counts[k].charged + (drawn->planned.counts[k].charged > 0), drawn/'
+idle_charged="/^void ref_run/,/^}/s/^    \\}\$/&\\n    if (rule == REF_P_CON)\\n\
+        counts->charged++, memset(schedule, 0xff, job->disks * sizeof *schedule);/
+    $all_charged"
 
 # Scripts about the stop
 in_reading='/^unsigned ref_read_ticket/,/^}/'
@@ -191,7 +232,7 @@ mutant 'P-CON: two nevers not equal, the higher number is later' \
     's/if \(from_u > l->distance\[v.min_block\]\)/if (from_u > l->distance[v.min_block] || (from_u == l->distance[v.min_block] \&\& b > v.min_block \&\& from_u != l->distance[b]))/'
 mutant 'P-CON counted from the next read, not from U' \
     's/while \(from_u < l->distance\[v.u\]\)/while (false)/'
-mutant 'equal rounds give the sheet of P-MIN' 's/p->mark = choice\(p->counts\)/p->mark = p->counts[1].rounds < p->counts[0].rounds/'
+mutant 'equal rounds give the sheet of P-MIN' 's/p->mark = choice\(p->counts\)/p->mark = p->counts[1].charged < p->counts[0].charged/'
 
 # How positions are held
 mutant 'positions in eight bits' "/^static void build_lookup/,/^}/s/\\(uint16_t\\)/(uint8_t)/;$at_most_n"
@@ -214,7 +255,7 @@ mutant 'the mark of the whole job' "$(of_whole '')
 mutant 'the counts of the whole job' "$(of_whole '')
     ${in_planning}s/^    p->length = .*/&\\n    memcpy(p->counts, c, sizeof c);/"
 mutant 'rooms for the sheets of the whole job asked for' \
-    "$(of_whole 'for (unsigned k = 0; k < 2; k++) if (sheet_length(a[k], (size_t)c[k].rounds * w.disks) > room[k]) return 17 + k;')"
+    "$(of_whole 'for (unsigned k = 0; k < 2; k++) if (sheet_length(a[k], (size_t)c[k].charged * w.disks) > room[k]) return 17 + k;')"
 mutant 'the check up to N' "${in_check}s/number = check_sheet/job.stop = job.references, &/"
 mutant 'the check asks that the reading end at the stop' \
     '/^static unsigned consume/,/^}/s/job->stop/job->references/;/^static unsigned check_rounds/,/^}/s/next_read < job->stop/next_read != job->stop/'
@@ -225,7 +266,7 @@ mutant 'the second sheet of a choice up to N' "${in_choice}s/number = check_shee
 mutant 'the page up to N' "$page_past"
 mutant 'room for the page of the whole job asked for' \
     's/^    if \(length > ng\)/    static struct ref_action a[REF_ROUNDS * REF_DISKS];\n    struct ref_counts c;\n    struct ref_job w = drawn.job;\n'\
-'    w.stop = w.references;\n    ref_run(\&w, rule, a, \&c);\n    if ((c.rounds * w.disks + REF_LEGEND) * REF_LINE > ng) return 19;\n&/'
+'    w.stop = w.references;\n    ref_run(\&w, rule, a, \&c);\n    if ((c.charged * w.disks + REF_LEGEND) * REF_LINE > ng) return 19;\n&/'
 
 # Which stops are refused
 mutant 'a stop of N refused' "$(refused 'stop >= job->references')"
@@ -342,22 +383,80 @@ mutant '16 tested before 15' \
     '/^static unsigned check_rounds/,/^}/s/^    if \(next_read < /    if (!closes(r)) return 16;\n&/'
 mutant 'unfinished sheets pass' 's/return 15;/return closes(r) ? 0 : 16;/'
 mutant 'every job called unfinished' 's/return closes\(r\) \? 0 : 16/return 15/'
-mutant 'rounds charged to the last reference only (L7)' \
-    '/^static unsigned check_rounds/,/^}/s/^        next_read = consume.*/if (next_read == job->stop) idle++;\n&/
-     s/^    unsigned next_read = 0;/    unsigned next_read = 0, idle = 0;/
-     s/return closes\(r\) \? 0 : 16;/{ counts->rounds -= (uint16_t)idle; return closes(r) ? 0 : 16; }/'
-mutant 'fetches counted to the last reference only' \
-    '/^static unsigned check_rounds/,/^}/s/\+= a.fetch != REF_NONE/+= a.fetch != REF_NONE \&\& next_read < job->stop/'
 mutant 'a missing last bit read as 0' 's/if \(width > 8 \* r->len - r->at\)/if (width > 1 \&\& width > 8 * r->len - r->at)/'
+
+# Which rounds are charged
+mutant 'all rounds written are charged, as before L7' "$all_charged"
+mutant 'one round more is charged' "$(charged 'counts->charged + 1')"
+mutant 'one round more is charged, where one is written' "$one_late"
+mutant 'one round less is charged' "$one_early"
+mutant 'one round less is charged, where rounds follow' "$(charged 'counts->charged - (counts->charged > 0 \&\& counts->charged < written)')"
+mutant 'none charged only where none is written' "$none_for_none"
+mutant 'the first round charged though nothing is read' "$(charged 'counts->charged == 0 \&\& written > 0 ? 1 : counts->charged')"
+mutant 'a stop of 0 is charged, if there are references' "$(charged 'job->stop == 0 \&\& job->references > 0 ? written : counts->charged')"
+mutant 'no references are charged, but for a stop of 0 none' "$(charged 'job->references == 0 ? written : counts->charged')"
+mutant 'charged up to the last round in which a disk fetches' "$busy
+    ${in_rounds}s/^        if \\(left \\&\\& .*/        if (busy)/"
+mutant 'the same, but nothing where nothing is read' "$busy
+    ${in_rounds}s/^        if \\(left \\&\\& .*/        if (busy \\&\\& job->stop > 0)/"
+mutant 'rounds in which no disk fetches not charged' "$busy
+    ${in_rounds}{s/^        if \\(left \\&\\& .*/        if (left \\&\\& busy)/;s/= \\(uint16_t\\)round;/+= 1;/}"
+mutant 'rounds in which nothing is consumed not charged' "$reading_rounds"
+mutant 'charged anew after a round in which no disk fetches' "$busy
+    ${in_rounds}s/= \\(uint16_t\\)round;/= (uint16_t)(round - rest);/
+    ${in_rounds}s/^        next_read = consume.*/        if (!busy) rest = round;\\n&/
+    ${in_rounds}s/^    unsigned next_read = 0;/    unsigned next_read = 0, rest = 0;/"
+mutant 'charged up to the first reference consumed' "${in_rounds}s/^        if \\(left \\&\\& .*/        if (next_read > 0 \\&\\& counts->charged == 0)/"
+mutant 'charged up to the last reference but one' \
+    "${in_rounds}{s/bool left = next_read </bool left = next_read + 1 </;s/left \\&\\& next_read == /left \\&\\& next_read + 1 >= /}"
+mutant 'charged up to references past the stop' "$past_charged"
+mutant 'charged where the last block is fetched, not where it is consumed' "$(when_left 'job->stop > 0 \&\& !s.resident[job->reference[job->stop - 1]]')"
+mutant 'charged up to the last round in which all blocks read are there' "$(when_left true)"
+mutant 'no more rounds charged than references' "$(charged 'counts->charged > job->stop ? (uint16_t)job->stop : counts->charged')"
+for bits in 8 10 11; do
+    mutant "the last $bits bits of the rounds charged" "$(charged "counts->charged \\& ((1 << $bits) - 1)")"
+done
+mutant '10 tested by the rounds charged' "s/^    if \\(written > REF_ROUNDS\\)/    if (false)/;${in_rounds}s/^    if \\(next_read < job->stop\\)/    if (counts->charged > REF_ROUNDS) return 10;\\n&/"
+
+# Fetches after the last reference
+mutant 'fetches counted to the last reference only' "$no_late_fetches"
+mutant 'fetches not counted where no round is charged' "${in_rounds}s/\\+= a.fetch != REF_NONE/+= a.fetch != REF_NONE \\&\\& job->stop > 0/"
+mutant 'fetches after the last reference counted into empty slots only' "$(counted_late 'a.discard == REF_NONE')"
+mutant 'fetches after the last reference counted where a block leaves only' "$(counted_late 'a.discard != REF_NONE')"
+mutant 'fetches after the last reference counted on disk 0 only' "$(counted_late 'd == 0')"
+mutant 'fetches after the last reference counted but for the last disk' "$(counted_late 'd + 1 < job->disks || d == 0')"
+mutant 'fetches of the round after the last reference only' "$(counted_late 'round == counts->charged + 1u')"
+
+# Rounds after the last reference are read and tested
+mutant 'rounds after the last reference not read' "${in_rounds}s/^        bool left = .*/&\\n        if (!left) break;/"
+mutant 'rounds after the last reference not read, and what follows not looked at' "${in_rounds}s/^        bool left = .*/&\\n        if (!left) return 0;/"
+for number in 11 12 13 14 20; do
+    mutant "$number not tested after the last reference" \
+        "${in_rounds}s/^            if \\(number != 0\\)/            if (number == $number \\&\\& !left) number = 0, a = (struct ref_action){REF_NONE, REF_NONE};\\n&/"
+done
+mutant '9 not tested after the last reference' "${in_rounds}s/^            if \\(number != 0\\)/            if (number == 9 \\&\\& !left) return 0;\\n&/"
+mutant '16 not tested where rounds follow the last reference' "${in_rounds}s/return closes\\(r\\) \\? 0 : 16/return counts->charged < written || closes(r) ? 0 : 16/"
+mutant 'rounds after the last reference refused' "${in_rounds}s/^        bool left = .*/&\\n        if (!left) return 15;/"
+mutant 'a last round that reads nothing refused' "${in_rounds}s/^    if \\(next_read < job->stop\\)/    if (next_read < job->stop || counts->charged + 1u == written)/"
+
+# The choice, by the rounds charged
+mutant 'chosen by the rounds written' "$by_written"
+mutant 'a tie goes to the sheet with no more rounds written' "$(chosen "$second.charged < $first.charged || ($second.charged == $first.charged \\&\\& $written_2 <= $written_1)")"
+mutant 'chosen by the rounds written, the charged for a tie' \
+    "$(chosen "$written_2 < $written_1 || ($written_2 == $written_1 \\&\\& $second.charged <= $first.charged)")"
+mutant 'all rounds of the first sheet of a choice are charged' "$(all_of 0 "$written_1")"
+mutant 'all rounds of the second sheet of a choice are charged' "$(all_of 1 "$written_2")"
+mutant 'the rounds after the last reference compared' \
+    "$(chosen "$written_2 - $second.charged <= $written_1 - $first.charged")"
 
 # The choice
 mutant 'a tie goes to the first' "$tie_first"
 mutant 'a tie goes to the shorter sheet' \
-    "$(chosen "$second.rounds < $first.rounds || ($second.rounds == $first.rounds \&\& len[1] <= len[0])")"
+    "$(chosen "$second.charged < $first.charged || ($second.charged == $first.charged \&\& len[1] <= len[0])")"
 mutant 'chosen by length' "$(chosen 'len[1] <= len[0]')"
 mutant 'chosen by fetches' "$by_fetches"
-mutant 'the sheet with more rounds' "$(chosen "$second.rounds >= $first.rounds")"
-mutant 'the last eight bits of the rounds compared' "$(chosen "(uint8_t)$second.rounds <= (uint8_t)$first.rounds")"
+mutant 'the sheet with more rounds' "$(chosen "$second.charged >= $first.charged")"
+mutant 'the last eight bits of the rounds compared' "$(chosen "(uint8_t)$second.charged <= (uint8_t)$first.charged")"
 mutant 'the second checked before the first' 's/sheet\[k\], len\[k\], &counts\[k\]/sheet[1 - k], len[1 - k], \&counts[1 - k]/'
 mutant 'a failure of the first forgiven' 's/(number == 0 && k < 2); k\+\+/\1; number *= k, k++/'
 mutant 'a failure of the second forgiven' 's/(number == 0 && k < 2); k\+\+/\1; number *= 1 - k, k++/'
@@ -417,7 +516,7 @@ mutant 'the page of P-MIN always' "$of_p_min"
 # The room for a page
 mutant '19 for an exact room' 's/if \(length > ng\)/if (length >= ng)/'
 mutant 'no 19 for a room one byte short' 's/if \(length > ng\)/if (length > ng + 1)/'
-mutant '19 where the page of P-CON does not fit' 's/if \(length > ng\)/if ((drawn.planned.counts[1].rounds * drawn.job.disks + REF_LEGEND) * REF_LINE > ng)/'
+mutant '19 where the page of P-CON does not fit' 's/if \(length > ng\)/if ((drawn.planned.counts[1].charged * drawn.job.disks + REF_LEGEND) * REF_LINE > ng)/'
 mutant '18 for the page' 's/return 19;/return 18;/'
 mutant '19 before 18' "$(before_number "if (number == 18 \\&\\& $page_length > ng) return 19;")"
 mutant '19 before 17' "$(before_number "if (number == 17 \\&\\& $page_length > ng) return 19;")"
@@ -453,9 +552,23 @@ searched 'the min-block by references past the stop' "$min_past" 'NOT AS THE END
 searched 'P-CON waits by references past the stop' "$wait_past" 'PAST THE STOP COUNTS'
 searched 'the page up to N' "$page_past" 'NOT AS THE END'
 
-# Choices between the sheets of both plans that do not follow their rounds
+# Rounds that are charged, and fetches that are counted, otherwise than the search does
+searched 'all rounds written are charged, as before L7' "$all_charged" 'OTHER COUNTS'
+searched 'one round more is charged, where one is written' "$one_late" 'OTHER COUNTS'
+searched 'one round less is charged' "$one_early" 'NOT THE LEAST'
+searched 'none charged only where none is written' "$none_for_none" 'OTHER COUNTS'
+searched 'rounds in which nothing is consumed not charged' "$reading_rounds" 'OTHER COUNTS'
+searched 'charged up to references past the stop' "$past_charged" 'OTHER COUNTS'
+searched 'fetches counted to the last reference only' "$no_late_fetches" 'OTHER COUNTS'
+searched 'either plan ends in an idle round' "$idle_end" 'A PLAN HAS OTHER ROUNDS'
+searched 'P-CON ends in an idle round, and all rounds written are charged' "$idle_charged" 'A PLAN HAS OTHER ROUNDS'
+
+# Choices between the sheets of both plans, and of a way of the search, that do not follow the rounds charged
+searched 'chosen by the rounds written' "$by_written" 'ANOTHER CHOICE'
 searched 'a tie goes to the first' "$tie_first" 'ANOTHER CHOICE'
-searched 'equal rounds give the sheet of P-MIN, and the first' 's/(counts\[1\].rounds )<=( counts\[0\])/\1<\2/' 'ANOTHER CHOICE'
+searched 'a tie stays with a first sheet that goes on after its last reference' \
+    "$(chosen "$second.charged < $first.charged || ($second.charged == $first.charged \\&\\& $written_1 == $first.charged)")" 'ANOTHER CHOICE'
+searched 'equal rounds give the sheet of P-MIN, and the first' 's/(counts\[1\].charged )<=( counts\[0\])/\1<\2/' 'ANOTHER CHOICE'
 searched 'chosen by fetches' "$by_fetches" 'ANOTHER CHOICE'
 
 # Pages that do not follow the sheets

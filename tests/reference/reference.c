@@ -1,5 +1,5 @@
-/* reference.c - document 01 and requests L1 to L5, sentence by sentence; words between quotation
- * marks are their own. */
+/* reference.c - document 01 and requests L1 to L5 and L7, sentence by sentence; words between
+ * quotation marks are their own. */
 #include "reference.h"
 
 #include <stdbool.h>
@@ -346,7 +346,8 @@ static void play_round(const struct ref_job *job, enum ref_rule rule, struct run
     keep_up(job, &r->l, before, r->next_read);
 }
 
-/* "Planning starts a round only while references remain." */
+/* "Planning starts a round only while references remain", so that the last one consumes the last
+ * reference, and all are charged. */
 void ref_run(const struct ref_job *job, enum ref_rule rule, struct ref_action *schedule,
              struct ref_counts *counts)
 {
@@ -358,18 +359,19 @@ void ref_run(const struct ref_job *job, enum ref_rule rule, struct ref_action *s
         play_round(job, rule, &r, schedule, letters);
         for (unsigned d = 0; d < job->disks; d++)
             counts->fetches[d] += schedule[d].fetch != REF_NONE;
-        counts->rounds++;
+        counts->charged++;
     }
 }
 
 /* ---- The choice ---- */
 
 /* "The second is handed back if it takes no more rounds than the first, otherwise the first": 1 for
- * the second, by the counts of both; "only total rounds decide". In planning P-MIN's sheet is the
- * first, and this is the mark: in the worked jobs equal rounds give the sheet of P-CON. */
+ * the second, by the counts of both; "only total rounds decide", and "the choice of L1 and the claim
+ * of fewest rounds use the charged number". In planning P-MIN's sheet is the first, and this is the
+ * mark: in the worked jobs equal rounds give the sheet of P-CON. */
 static uint16_t choice(const struct ref_counts *counts)
 {
-    return counts[1].rounds <= counts[0].rounds;
+    return counts[1].charged <= counts[0].charged;
 }
 
 /* ---- Planning ---- */
@@ -393,7 +395,7 @@ static unsigned draw_up(const uint8_t *ticket, size_t n, size_t stop, const size
     for (int k = 0; k < 2; k++) {
         ref_run(&drawn->job, (enum ref_rule)k, drawn->schedule[k], &p->counts[k]);
         p->sheet_length[k] = sheet_length(drawn->schedule[k],
-                                          (size_t)p->counts[k].rounds * drawn->job.disks);
+                                          (size_t)p->counts[k].charged * drawn->job.disks);
     }
     for (unsigned k = 0; k < 2; k++)
         if (p->sheet_length[k] > room[k])
@@ -403,11 +405,11 @@ static unsigned draw_up(const uint8_t *ticket, size_t n, size_t stop, const size
     return 0;
 }
 
-/* "two buffers, one for each sheet, and both are written" */
+/* "two buffers, one for each sheet, and both are written"; a plan has no rounds but those charged */
 static void write_sheets(const struct drawn *drawn, uint8_t *const *buffer, const size_t *room)
 {
     for (int k = 0; k < 2; k++)
-        ref_write_sheet(drawn->schedule[k], drawn->planned.counts[k].rounds, drawn->job.disks,
+        ref_write_sheet(drawn->schedule[k], drawn->planned.counts[k].charged, drawn->job.disks,
                         buffer[k], room[k]);
 }
 
@@ -509,7 +511,7 @@ unsigned ref_page(const uint8_t *ticket, size_t n, size_t stop, uint8_t *p_min, 
     if (number != 0)
         return number;
     rule = (enum ref_rule)drawn.planned.mark;
-    length = ((size_t)drawn.planned.counts[rule].rounds * drawn.job.disks + REF_LEGEND) * REF_LINE;
+    length = ((size_t)drawn.planned.counts[rule].charged * drawn.job.disks + REF_LEGEND) * REF_LINE;
     if (length > ng)
         return 19;
     write_sheets(&drawn, buffer, room);
@@ -554,14 +556,18 @@ static unsigned check_action(struct reader *r, const struct ref_job *job,
     return 0;
 }
 
-/* Plays the rounds of a sheet whose R has been read. */
-static unsigned check_rounds(struct reader *r, const struct ref_job *job,
+/* Plays all rounds that are written in a sheet. It is charged "up to the round in which the last
+ * reference is consumed ..., 0 where nothing had to be fetched. Fetches are still counted to the
+ * end". */
+static unsigned check_rounds(struct reader *r, const struct ref_job *job, unsigned written,
                              struct ref_counts *counts)
 {
     struct buffers s = {{false}, {0}};
     unsigned next_read = 0;
 
-    for (unsigned round = 0; round < counts->rounds; round++) {
+    for (unsigned round = 1; round <= written; round++) {
+        bool left = next_read < job->stop;
+
         for (unsigned d = 0; d < job->disks; d++) {
             struct ref_action a;
             unsigned number = check_action(r, job, &s, d, &a);
@@ -572,6 +578,8 @@ static unsigned check_rounds(struct reader *r, const struct ref_job *job,
             counts->fetches[d] += a.fetch != REF_NONE;
         }
         next_read = consume(job, &s, next_read);
+        if (left && next_read == job->stop)
+            counts->charged = (uint16_t)round;
     }
     if (next_read < job->stop)
         return 15;
@@ -583,15 +591,14 @@ static unsigned check_sheet(const struct ref_job *job, const uint8_t *sheet, siz
                             struct ref_counts *counts)
 {
     struct reader r = {sheet, m, 0};
-    unsigned rounds;
+    unsigned written;
 
     memset(counts, 0, sizeof *counts);
-    if (!field(&r, 12, &rounds))
+    if (!field(&r, 12, &written))
         return 9;
-    if (rounds > REF_ROUNDS)
+    if (written > REF_ROUNDS)
         return 10;
-    counts->rounds = (uint16_t)rounds;
-    return check_rounds(&r, job, counts);
+    return check_rounds(&r, job, written, counts);
 }
 
 unsigned ref_check(const uint8_t *ticket, size_t n, size_t stop, const uint8_t *sheet, size_t m,
@@ -631,10 +638,10 @@ unsigned ref_choose(const uint8_t *ticket, size_t n, size_t stop, const uint8_t 
 
 /* ---- The numbers a call from C writes ---- */
 
-/* "the rounds and eight fetch counts" */
+/* "the rounds and eight fetch counts"; "a sheet's rounds are from now on" the charged ones */
 void ref_checked_numbers(const struct ref_counts *counts, uint16_t *numbers)
 {
-    numbers[0] = counts->rounds;
+    numbers[0] = counts->charged;
     memcpy(numbers + 1, counts->fetches, sizeof counts->fetches);
 }
 

@@ -1,4 +1,4 @@
-/* reference.h - the planner of document 01 with requests L1 to L6, written from the papers alone.
+/* reference.h - the planner of document 01 with requests L1 to L7, written from the papers alone.
  *
  * A reference to compare others with: tables and plain passes over the blocks, nothing clever.
  * Every answer "number" is 0, or the number of the refusal in documents 01 and 02. Notes, of request
@@ -23,7 +23,7 @@ enum {
     REF_PARENTHESES = 16,      /* of a note: no more are open at once */
     REF_NONE = 0xffff,         /* no block */
     REF_PLANNED_NUMBERS = 20,  /* mark, part length, then 9 for each plan */
-    REF_CHECKED_NUMBERS = 9,   /* rounds and eight fetch counts */
+    REF_CHECKED_NUMBERS = 9,   /* rounds charged and eight fetch counts */
     REF_CHOSEN_NUMBERS = 2     /* which sheet, and its length */
 };
 
@@ -42,8 +42,10 @@ struct ref_action {
     uint16_t fetch, discard;   /* REF_NONE: no fetch, nothing discarded */
 };
 
+/* What a schedule costs: the rounds charged, which end with the one in which the last reference before
+ * the stop is consumed, and the fetches of all its rounds. */
 struct ref_counts {
-    uint16_t rounds, fetches[REF_DISKS];
+    uint16_t charged, fetches[REF_DISKS];
 };
 
 enum ref_rule { REF_P_MIN = 0, REF_P_CON = 1 };  /* P-MIN and P-CON; also the marks */
@@ -75,7 +77,8 @@ size_t ref_write_ticket(const struct ref_job *job, uint8_t *buf, size_t room);
 size_t ref_write_sheet(const struct ref_action *schedule, unsigned rounds, unsigned disks,
                        uint8_t *buf, size_t room);
 
-/* The schedule of one rule up to the job's stop; room for stop x disks actions. */
+/* The schedule of one rule up to the job's stop; room for stop x disks actions. All its rounds are
+ * charged. */
 void ref_run(const struct ref_job *job, enum ref_rule rule, struct ref_action *schedule,
              struct ref_counts *counts);
 

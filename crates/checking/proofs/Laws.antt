@@ -9,7 +9,7 @@ use native.Mathlib.Omega.{arith}
 use lib.Dec.{ltb}
 use lib.ListN.{length, getD, drop, replicate, length-set, getD-replicate}
 use lib.Seq.{getD-set-same, getD-set-other}
-use borrow.Author.Tests.{lt-ltb, le-ltb}
+use borrow.Author.Tests.{lt-ltb, le-ltb, ltb-false}
 use Rattle.bits.specs.Bits.{bits}
 use Rattle.bits.specs.Reading.{Answer, given, refused, Read, got, stop, Reader, bind, _>>=_, _>>_, give, field, refuseIf, isClosed, closing, answer, readAll}
 use Rattle.bits.proofs.Reading.{closing-is}
@@ -17,15 +17,13 @@ use Rattle.bits.specs.Fields.{fieldAt, readOf}
 use Rattle.bits.specs.declared.Field.{Field}
 use Rattle.bits.specs.declared.Field.the-variants.{Value, Ended}
 use Rattle.bits.proofs.Logic.{by-test}
-use Rattle.bits.proofs.Bits.{bits-are, drop-bits}
 use Rattle.bits.proofs.Fields.{field-reads}
 use Rattle.model.specs.Job.{Job, diskCount, refCount}
-use Rattle.model.specs.Playing.{Action, idle, fetch, replace, Schedule, State, start, act, actAll, playRound, play, rounds, fetched, fetches, total}
+use Rattle.model.specs.Playing.{Action, idle, fetch, replace, Schedule, State, start, act, actAll, playRound, play, chargedFrom, charged, fetched, fetches, total}
 use Rattle.model.specs.Plans.{each}
 use Rattle.model.specs.Sheet.{actionReader, roundReader, roundsReader, sheetReader, scheduleRead}
 use Rattle.model.specs.Calls.{Counts, countsOf, passOf}
-use Rattle.model.proofs.Sheets.{rounds-read}
-use Rattle.checking.specs.Checking.{counted, goOn, endOf, disksFrom, roundsFrom, played}
+use Rattle.checking.specs.Checking.{counted, goOn, endOf, disksFrom, chargedAfter, roundsFrom, played}
 
 -- Going on after a reading.
 
@@ -55,6 +53,11 @@ countedAll : List ℕ → Schedule → List ℕ
 countedAll f [] = f
 countedAll f (actions ∷ more) = countedAll (countedRound f 0 actions) more
 
+-- The rounds charged after all rounds, from a state and the rounds charged before it.
+chargedAll : Job → State → ℕ → Schedule → ℕ
+chargedAll j s n [] = n
+chargedAll j s n (actions ∷ more) = chargedAll j (playRound j s actions) (chargedAfter j (s .next) (suc (s .round)) n) more
+
 -- The rest of a round.
 disks-read : (j : Job) (next : List Bool → List ℕ → List ℕ → Answer Counts) (k : ℕ) (marks : List Bool) (f : List ℕ) (d : ℕ) (l : List ℕ)
     → disksFrom j next k marks f d l ≡ goOn (roundReader j k marks d l) (λ actions. next (actAll marks actions) (countedRound f d actions))
@@ -67,14 +70,14 @@ disks-read j next (suc k) marks f d l =
     ∙ sym (goOn-bind (actionReader j marks d l) _ _)
 
 -- The rest of a sheet.
-rounds-played : (j : Job) (n k : ℕ) (s : State) (f l : List ℕ)
-    → roundsFrom j n k s f l ≡ goOn (roundsReader j k s l) (λ schedule. endOf (ltb (play j s schedule .next) (refCount j)) n (countedAll f schedule))
-unfolding roundsFrom roundsReader goOn give play playRound countedAll bind _>>=_
-rounds-played j n zero s f l = refl
-rounds-played j n (suc k) s f l =
+rounds-played : (j : Job) (k : ℕ) (s : State) (n : ℕ) (f l : List ℕ)
+    → roundsFrom j k s n f l ≡ goOn (roundsReader j k s l) (λ schedule. endOf (ltb (play j s schedule .next) (refCount j)) (chargedAll j s n schedule) (countedAll f schedule))
+unfolding roundsFrom roundsReader goOn give play playRound chargedAll countedAll bind _>>=_
+rounds-played j zero s n f l = refl
+rounds-played j (suc k) s n f l =
     disks-read j _ (diskCount j) (s .resident) f 0 l
     ∙ goOn-same (roundReader j (diskCount j) (s .resident) 0 l) _ _ (λ actions rest e.
-    rounds-played j n k (playRound j s actions) (countedRound f 0 actions) rest
+    rounds-played j k (playRound j s actions) (chargedAfter j (s .next) (suc (s .round)) n) (countedRound f 0 actions) rest
     ∙ sym (goOn-cons (roundsReader j k (playRound j s actions)) actions rest _))
     ∙ sym (goOn-bind (roundReader j (diskCount j) (s .resident) 0 l) _ _)
 
@@ -155,30 +158,54 @@ counted-fetches schedule =
     let zeros = getD-replicate {A = ℕ} 8 k 0 0 p in
     rw same (all-at (replicate 8 0) schedule k p ∙ omega (arith, zeros))
 
+-- The rounds that are charged are those of the schedule: from where references remain, as many as are charged before and from there; where none
+-- remains, those before.
+
+charged-over : (j : Job) (s : State) (n : ℕ) (schedule : Schedule) → refCount j ≤ s .next → chargedAll j s n schedule ≡ n
+unfolding chargedAll playRound
+charged-over j s n [] l = refl
+charged-over j s n (actions ∷ more) l =
+    rw (le-ltb (s .next) (refCount j) l) (charged-over j (playRound j s actions) n more (omega arith))
+
+charged-all : (j : Job) (s : State) (schedule : Schedule) → chargedAll j s (s .round) schedule ≡ s .round + chargedFrom j s schedule
+unfolding chargedAll chargedFrom playRound
+charged-all j s [] = omega arith
+charged-all j s (actions ∷ more) =
+    let ih = charged-all j (playRound j s actions) more in
+    by-test (ltb (s .next) (refCount j))
+    (λ e. rw (e, chargedFrom) (omega (arith, ih)))
+    (λ e. let l = ltb-false (s .next) (refCount j) e in
+    let over = charged-over j (playRound j s actions) (s .round) more (omega (arith, l)) in
+    rw (e, chargedFrom) (omega (arith, over)))
+
+charged-start : (j : Job) (schedule : Schedule) → chargedAll j (start j) 0 schedule ≡ charged j schedule
+unfolding charged start
+charged-start j schedule = let e = charged-all j (start j) schedule in omega (arith, e)
+
 -- The check.
 
 -- a pass over what was read
-passed : Schedule → List ℕ → Answer Counts
+passed : Job → Schedule → List ℕ → Answer Counts
 unfolding countsOf
-passed schedule rest = given (countsOf schedule)
+passed j schedule rest = given (countsOf j schedule)
 
-pass-goes : (r : Read Schedule) → passOf (answer r) ≡ goOn r passed
+pass-goes : (j : Job) (r : Read Schedule) → passOf j (answer r) ≡ goOn r (passed j)
 unfolding passOf answer goOn passed
-pass-goes (got schedule rest) = refl
-pass-goes (stop n) = refl
+pass-goes j (got schedule rest) = refl
+pass-goes j (stop n) = refl
 
 -- what follows the last round
-module _ (schedule : Schedule) (n : ℕ) (f : List ℕ) (e : n ≡ length schedule) (p : f ≡ each (fetches schedule) 0 8) where
-  closed-goes : (t : Bool) → goOn (bind {A = Unit {0}} (cond t (got tt []) (stop 16)) (λ a. give schedule)) passed
+module _ (j : Job) (schedule : Schedule) (n : ℕ) (f : List ℕ) (e : n ≡ charged j schedule) (p : f ≡ each (fetches schedule) 0 8) where
+  closed-goes : (t : Bool) → goOn (bind {A = Unit {0}} (cond t (got tt []) (stop 16)) (λ a. give schedule)) (passed j)
       ≡ cond t (given (record { rounds = n; fetches = f })) (refused 16)
-  unfolding goOn bind give passed rounds
+  unfolding goOn bind give passed
   closed-goes true = rw (e, p)
   closed-goes false = refl
 
-  end-goes : (t : Bool) (l : List ℕ) → goOn ((refuseIf 15 t >> (closing 16 >> give schedule)) l) passed ≡ endOf t n f l
+  end-goes : (t : Bool) (l : List ℕ) → goOn ((refuseIf 15 t >> (closing 16 >> give schedule)) l) (passed j) ≡ endOf t n f l
   unfolding goOn bind _>>_ refuseIf endOf
   end-goes true l = refl
-  end-goes false l = ap (λ (r : Read (Unit {0})). goOn (bind r (λ a. give schedule)) passed) (closing-is 16 l) ∙ closed-goes (isClosed l)
+  end-goes false l = ap (λ (r : Read (Unit {0})). goOn (bind r (λ a. give schedule)) (passed j)) (closing-is 16 l) ∙ closed-goes (isClosed l)
 
 -- what follows the round count, and the test of 10
 roundsRest : Job → ℕ → Reader Schedule
@@ -188,17 +215,15 @@ roundsRest j r = do
   closing 16
   give schedule
 
-rest-goes : (j : Job) (r : ℕ) (s : List ℕ) → goOn (roundsRest j r (drop 12 (bits s))) passed ≡ played j r s
+rest-goes : (j : Job) (r : ℕ) (s : List ℕ) → goOn (roundsRest j r (drop 12 (bits s))) (passed j) ≡ played j r s
 unfolding roundsRest played _>>=_
 rest-goes j r s =
     let l = drop 12 (bits s) in
-    goOn-bind (roundsReader j r (start j) l) _ passed
+    goOn-bind (roundsReader j r (start j) l) _ (passed j)
     ∙ goOn-same (roundsReader j r (start j) l) _ _ (λ schedule rest e.
-    end-goes schedule r (countedAll (replicate 8 0) schedule)
-    (sym (rounds-read j r (start j) l schedule rest (drop-bits 12 (bits s) (bits-are s)) e .each))
-    (counted-fetches schedule)
+    end-goes j schedule (chargedAll j (start j) 0 schedule) (countedAll (replicate 8 0) schedule) (charged-start j schedule) (counted-fetches schedule)
     (ltb (play j (start j) schedule .next) (refCount j)) rest)
-    ∙ sym (rounds-played j r r (start j) (replicate 8 0) l)
+    ∙ sym (rounds-played j r (start j) 0 (replicate 8 0) l)
 
 -- The answer to a sheet whose round count was read.
 answered : Job → List ℕ → Field → Answer Counts
@@ -207,29 +232,29 @@ answered j s (Value r) = cond (ltb 2048 r) (refused 10) (played j r s)
 answered j s Ended = refused 9
 
 count-goes : (j : Job) (s : List ℕ) (f : Field)
-    → goOn (readOf 9 (drop 12 (bits s)) f) (λ r rest. goOn ((refuseIf 10 (ltb 2048 r) >> roundsRest j r) rest) passed) ≡ answered j s f
+    → goOn (readOf 9 (drop 12 (bits s)) f) (λ r rest. goOn ((refuseIf 10 (ltb 2048 r) >> roundsRest j r) rest) (passed j)) ≡ answered j s f
 unfolding goOn readOf _>>_ bind refuseIf answered
 count-goes j s (Value r) = by-test (ltb 2048 r) (λ t. rw t) (λ t. rw t (rest-goes j r s))
 count-goes j s Ended = refl
 
-check-answers : (j : Job) (s : List ℕ) → passOf (scheduleRead j s) ≡ answered j s (fieldAt s 0 12)
+check-answers : (j : Job) (s : List ℕ) → passOf j (scheduleRead j s) ≡ answered j s (fieldAt s 0 12)
 unfolding scheduleRead readAll sheetReader _>>=_ roundsRest
 check-answers j s =
-    pass-goes (sheetReader j (start j) (bits s))
-    ∙ goOn-bind (field 9 12 (bits s)) _ passed
-    ∙ ap (λ (x : Read ℕ). goOn x (λ r rest. goOn ((refuseIf 10 (ltb 2048 r) >> roundsRest j r) rest) passed)) (field-reads 9 12 0 s (omega arith))
+    pass-goes j (sheetReader j (start j) (bits s))
+    ∙ goOn-bind (field 9 12 (bits s)) _ (passed j)
+    ∙ ap (λ (x : Read ℕ). goOn x (λ r rest. goOn ((refuseIf 10 (ltb 2048 r) >> roundsRest j r) rest) (passed j))) (field-reads 9 12 0 s (omega arith))
     ∙ count-goes j s (fieldAt s 0 12)
 
 -- The three ways from the round count on.
 module _ (j : Job) (s : List ℕ) where
-  pub check-ended : fieldAt s 0 12 ≡ Ended → passOf (scheduleRead j s) ≡ refused 9
+  pub check-ended : fieldAt s 0 12 ≡ Ended → passOf j (scheduleRead j s) ≡ refused 9
   unfolding answered
   check-ended e = check-answers j s ∙ ap (answered j s) e
 
-  pub check-long : (r : ℕ) → fieldAt s 0 12 ≡ Value r → 2048 < r → passOf (scheduleRead j s) ≡ refused 10
+  pub check-long : (r : ℕ) → fieldAt s 0 12 ≡ Value r → 2048 < r → passOf j (scheduleRead j s) ≡ refused 10
   unfolding answered
   check-long r e l = check-answers j s ∙ ap (answered j s) e ∙ rw (lt-ltb 2048 r l)
 
-  pub check-plays : (r : ℕ) → fieldAt s 0 12 ≡ Value r → r ≤ 2048 → passOf (scheduleRead j s) ≡ played j r s
+  pub check-plays : (r : ℕ) → fieldAt s 0 12 ≡ Value r → r ≤ 2048 → passOf j (scheduleRead j s) ≡ played j r s
   unfolding answered
   check-plays r e l = check-answers j s ∙ ap (answered j s) e ∙ rw (le-ltb 2048 r l)

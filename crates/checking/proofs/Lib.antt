@@ -1,3 +1,2 @@
-pub mod Actions
 pub mod Laws
 pub mod Rounds

@@ -1,7 +1,7 @@
 -- What is known while the rounds of a sheet are played: the answer is what the rest of the sheet gives from here. Each step of the player keeps
 -- it. Assumes nothing.
 use mathlib.Core.Path.{_≡_, refl, sym, ap, _∙_, subst, subst₃}
-use mathlib.Core.Bool.{Bool, true, false, _&&_}
+use mathlib.Core.Bool.{Bool, true, false, cond, _&&_}
 use mathlib.Core.List.{List}
 use Prim.Native.Nat.{ℕ, zero, suc, _+_, _-_, _*_, _≤_, _<_}
 use native.Mathlib.Numerals.{add-one}
@@ -9,7 +9,7 @@ use native.Mathlib.Omega.{arith}
 use lib.Dec.{ltb, leb, eqb}
 use lib.ListN.{length, getD, set, drop, replicate, length-set, drop-of-length-le}
 use lib.Seq.{getD-set-same, getD-set-other, drop-cons}
-use borrow.Author.Tests.{eqb-true, eqb-false}
+use borrow.Author.Tests.{eqb-true, eqb-false, lt-ltb, le-ltb}
 use Rattle.bits.specs.Bits.{bits}
 use Rattle.bits.specs.Reading.{Answer, refused, got}
 use Rattle.bits.proofs.Logic.{by-test}
@@ -17,7 +17,7 @@ use Rattle.bits.proofs.Bits.{bits-are, drop-bits}
 use Rattle.job.specs.Meaning.{jobOf, Fits}
 use Rattle.job.specs.declared.Job.{Job as Stored}
 use Rattle.job.proofs.Laws.{disks-are, blocks-are, refs-are, slots-at, disk-at, ref-at}
-use Rattle.model.specs.Job.{Job, diskCount, blockCount, slotsOf, diskOf}
+use Rattle.model.specs.Job.{Job, diskCount, blockCount, refCount, slotsOf, diskOf}
 use Rattle.model.specs.Playing.{Action, fetch, replace, State, start, noneResident, isResident, load, act, consumed}
 use Rattle.model.specs.Sheet.{actionReader}
 use Rattle.model.specs.Valid.{Block, Legal}
@@ -27,10 +27,11 @@ use Rattle.model.proofs.Sheets.{Room, ActionRead, action-read}
 use Rattle.playing.specs.declared.Buffers.{Buffers}
 use Rattle.playing.specs.Playing.{emptyBuffers, fetchInto, replaceIn, consumeOne, Holds}
 use Rattle.playing.proofs.Laws.{holds-start, holds-same, holds-some, holds-fetch, holds-replace, holds-consume}
-use Rattle.checking.specs.Checking.{actionAt, actRead, counted, goOn, endOf, disksFrom, afterReading, roundsFrom, played}
-use Rattle.checking.specs.declared.Act.{Act}
-use Rattle.checking.specs.declared.Act.the-variants.{Idle, Fetch, Replace, Refused}
-use Rattle.checking.proofs.Actions.{action-reads}
+use Rattle.actions.specs.Actions.{actionAt, actRead}
+use Rattle.actions.specs.declared.Act.{Act}
+use Rattle.actions.specs.declared.Act.the-variants.{Idle, Fetch, Replace, Refused}
+use Rattle.actions.proofs.Laws.{action-reads}
+use Rattle.checking.specs.Checking.{counted, goOn, endOf, disksFrom, afterReading, chargedAfter, roundsFrom, played}
 
 -- The state of the model that the buffers hold in round k.
 abbrev pub stateOf : Buffers → ℕ → State
@@ -42,7 +43,7 @@ actionHere c s b at d = actionAt s at (c .blocks) (c .disk) (b .resident) d (leb
 
 -- What follows a round.
 abbrev pub afterRound : Job → ℕ → ℕ → ℕ → ℕ → List Bool → List ℕ → List ℕ → Answer Counts
-afterRound j rounds left next round = λ marks. roundsFrom j rounds left (afterReading j marks next round)
+afterRound j left next round charged = λ marks. roundsFrom j left (afterReading j marks next round) (chargedAfter j next round charged)
 
 -- After at most n actions: the buffers hold a state of the job, and the position and the counts are within bounds.
 pub record Bounded (c : Stored) (b : Buffers) (f : List ℕ) (at n : ℕ) : Type 0 where
@@ -51,22 +52,24 @@ pub record Bounded (c : Stored) (b : Buffers) (f : List ℕ) (at n : ℕ) : Type
   pub long : length f ≡ 8
   pub few : (e : ℕ) → getD f e 0 ≤ n
 
--- Before round k; within it, before disk d; and at its end, while references are read. `s` is the sheet, `rounds` its round count.
-pub record BeforeRound (c : Stored) (s : List ℕ) (rounds : ℕ) (b : Buffers) (f : List ℕ) (at k : ℕ) : Type 0 where
+-- Before round k; within it, before disk d; and at its end, while references are read. `s` is the sheet, `rounds` its round count, `charged` the
+-- rounds charged so far.
+pub record BeforeRound (c : Stored) (s : List ℕ) (rounds : ℕ) (b : Buffers) (f : List ℕ) (at k charged : ℕ) : Type 0 where
   pub within : k ≤ rounds
   pub bounded : Bounded c b f at (8 * k)
-  pub answer : roundsFrom (jobOf c) rounds (rounds - k) (stateOf b k) f (drop at (bits s)) ≡ played (jobOf c) rounds s
+  pub answer : roundsFrom (jobOf c) (rounds - k) (stateOf b k) charged f (drop at (bits s)) ≡ played (jobOf c) rounds s
 
-pub record BeforeDisk (c : Stored) (s : List ℕ) (rounds k : ℕ) (b : Buffers) (f : List ℕ) (at d : ℕ) : Type 0 where
+pub record BeforeDisk (c : Stored) (s : List ℕ) (rounds k charged : ℕ) (b : Buffers) (f : List ℕ) (at d : ℕ) : Type 0 where
   pub within : d ≤ c .disks
   pub bounded : Bounded c b f at (8 * k + d)
-  pub answer : disksFrom (jobOf c) (afterRound (jobOf c) rounds (rounds - suc k) (b .next) (suc k)) (c .disks - d) (b .resident) f d (drop at (bits s))
+  pub answer : disksFrom (jobOf c) (afterRound (jobOf c) (rounds - suc k) (b .next) (suc k) charged) (c .disks - d) (b .resident) f d (drop at (bits s))
       ≡ played (jobOf c) rounds s
 
-pub record AtReading (c : Stored) (s : List ℕ) (rounds : ℕ) (f : List ℕ) (at k : ℕ) (b : Buffers) : Type 0 where
+pub record AtReading (c : Stored) (s : List ℕ) (rounds : ℕ) (f : List ℕ) (at k : ℕ) (b : Buffers) (charged : ℕ) : Type 0 where
   pub within : k ≤ rounds
   pub bounded : Bounded c b f at (8 * k)
-  pub answer : roundsFrom (jobOf c) rounds (rounds - k) (afterReading (jobOf c) (b .resident) (b .next) k) f (drop at (bits s))
+  pub answer : roundsFrom (jobOf c) (rounds - k) (afterReading (jobOf c) (b .resident) (b .next) k) (chargedAfter (jobOf c) (b .next) k charged) f
+      (drop at (bits s))
       ≡ played (jobOf c) rounds s
 
 -- more actions than there were
@@ -120,6 +123,11 @@ module _ (marks : List Bool) (refs : List ℕ) (q : ℕ) where
   unfolding consumed
   read-none l = rw (drop-of-length-le refs {i = q} l)
 
+-- what is charged is this round already
+cond-same : (t : Bool) (k : ℕ) → cond t k k ≡ k
+cond-same true k = refl
+cond-same false k = refl
+
 zeros-at : (n e : ℕ) → _≡_ {A = ℕ} (getD (replicate n 0) e 0) 0
 zeros-at zero e = refl
 zeros-at (suc n) zero = refl
@@ -127,7 +135,7 @@ zeros-at (suc n) (suc e) = zeros-at n e
 
 module _ {c : Stored} (h : Fits c) {s : List ℕ} {rounds : ℕ} where
   -- at the start
-  pub round-first : BeforeRound c s rounds emptyBuffers (replicate 8 0) 12 0
+  pub round-first : BeforeRound c s rounds emptyBuffers (replicate 8 0) 12 0 0
   unfolding played start noneResident emptyBuffers
   round-first =
       let all : rounds - 0 ≡ rounds = omega arith in
@@ -139,11 +147,12 @@ module _ {c : Stored} (h : Fits c) {s : List ℕ} {rounds : ℕ} where
           long = refl;
           few = λ e. (let z = zeros-at 8 e in omega (arith, z));
         };
-        answer = ap (λ (n : ℕ). roundsFrom (jobOf c) rounds n (start (jobOf c)) (replicate 8 0) (drop 12 (bits s))) all;
+        answer = ap (λ (n : ℕ). roundsFrom (jobOf c) n (start (jobOf c)) 0 (replicate 8 0) (drop 12 (bits s))) all;
       }
 
   -- a round begins
-  pub disk-first : {b : Buffers} {f : List ℕ} {at k : ℕ} → BeforeRound c s rounds b f at k → k < rounds → BeforeDisk c s rounds k b f at 0
+  pub disk-first : {b : Buffers} {f : List ℕ} {at k charged : ℕ} → BeforeRound c s rounds b f at k charged → k < rounds
+      → BeforeDisk c s rounds k charged b f at 0
   unfolding roundsFrom
   disk-first {k = k} p l =
       let left : rounds - k ≡ suc (rounds - suc k) = omega arith in
@@ -155,7 +164,7 @@ module _ {c : Stored} (h : Fits c) {s : List ℕ} {rounds : ℕ} where
       }
 
   -- disk d acts
-  module _ {k : ℕ} {b : Buffers} {f : List ℕ} {at d : ℕ} (p : BeforeDisk c s rounds k b f at d) (l : d < c .disks) where
+  module _ {k charged : ℕ} {b : Buffers} {f : List ℕ} {at d : ℕ} (p : BeforeDisk c s rounds k charged b f at d) (l : d < c .disks) where
     held : Holds (jobOf c) b (stateOf b 0)
     held = p .bounded .holds
 
@@ -197,7 +206,7 @@ module _ {c : Stored} (h : Fits c) {s : List ℕ} {rounds : ℕ} where
 
     -- what the rest gives after it
     goes : (a : Act) → a ≡ actionHere c s b at d
-        → goOn (actRead s at a) (λ x rest. disksFrom (jobOf c) (afterRound (jobOf c) rounds (rounds - suc k) (b .next) (suc k)) (c .disks - suc d)
+        → goOn (actRead s at a) (λ x rest. disksFrom (jobOf c) (afterRound (jobOf c) (rounds - suc k) (b .next) (suc k) charged) (c .disks - suc d)
         (act (b .resident) x) (counted f d x) (suc d) rest)
         ≡ played (jobOf c) rounds s
     unfolding disksFrom
@@ -211,7 +220,7 @@ module _ {c : Stored} (h : Fits c) {s : List ℕ} {rounds : ℕ} where
     disk-refused {n} e = goes (Refused n) e
 
     -- nothing is fetched
-    pub disk-idle : Idle ≡ actionHere c s b at d → BeforeDisk c s rounds k b f (at + 1) (d + 1)
+    pub disk-idle : Idle ≡ actionHere c s b at d → BeforeDisk c s rounds k charged b f (at + 1) (d + 1)
     unfolding goOn actRead act counted
     disk-idle e =
         rw (add-one d) (record {
@@ -239,7 +248,7 @@ module _ {c : Stored} (h : Fits c) {s : List ℕ} {rounds : ℕ} where
           let most = h .sound .fewSlots d here in
           (omega (arith, q, fewBlocks), small, omega (arith, r, loads, most))
 
-      pub disk-fetch : BeforeDisk c s rounds k (fetchInto b x d) (set f d (getD f d 0 + 1)) (at + 11) (d + 1)
+      pub disk-fetch : BeforeDisk c s rounds k charged (fetchInto b x d) (set f d (getD f d 0 + 1)) (at + 11) (d + 1)
       unfolding goOn actRead act counted fetchInto
       disk-fetch =
           let after = holds-fetch (jobOf c) b (stateOf b 0) held fewBlocks fewDisks d here x (into .0) in
@@ -262,7 +271,7 @@ module _ {c : Stored} (h : Fits c) {s : List ℕ} {rounds : ℕ} where
           let some = holds-some (jobOf c) b (stateOf b 0) held d here z (both .1) in
           (omega (arith, r, fewBlocks), omega (arith, q, fewBlocks), small, some)
 
-      pub disk-replace : BeforeDisk c s rounds k (replaceIn b z x d) (set f d (getD f d 0 + 1)) (at + 20) (d + 1)
+      pub disk-replace : BeforeDisk c s rounds k charged (replaceIn b z x d) (set f d (getD f d 0 + 1)) (at + 20) (d + 1)
       unfolding goOn actRead act counted replaceIn
       disk-replace =
           let after = holds-replace (jobOf c) b (stateOf b 0) held fewBlocks fewDisks d here x z (both .0) (both .1) in
@@ -273,8 +282,8 @@ module _ {c : Stored} (h : Fits c) {s : List ℕ} {rounds : ℕ} where
           })
 
   -- all disks have acted
-  pub reading-first : {k : ℕ} {b : Buffers} {f : List ℕ} {at d : ℕ} → BeforeDisk c s rounds k b f at d → c .disks ≤ d → k < rounds
-      → AtReading c s rounds f at (k + 1) b
+  pub reading-first : {k charged : ℕ} {b : Buffers} {f : List ℕ} {at d : ℕ} → BeforeDisk c s rounds k charged b f at d → c .disks ≤ d → k < rounds
+      → AtReading c s rounds f at (k + 1) b charged
   unfolding disksFrom
   reading-first {k} {d = d} p l q =
       let none : c .disks - d ≡ 0 = omega arith in
@@ -287,9 +296,13 @@ module _ {c : Stored} (h : Fits c) {s : List ℕ} {rounds : ℕ} where
       })
 
   -- references are read
-  module _ {f : List ℕ} {at k : ℕ} {b : Buffers} (p : AtReading c s rounds f at k b) where
+  module _ {f : List ℕ} {at k charged : ℕ} {b : Buffers} (p : AtReading c s rounds f at k b charged) where
+    -- a reference that is left is due: this round is charged
+    due : b .next < c .count → ltb (b .next) (refCount (jobOf c)) ≡ true
+    due l = let n = refs-are c h in lt-ltb (b .next) (refCount (jobOf c)) (omega (arith, n))
+
     -- one reference more
-    pub reading-more : b .next < c .count → isResident (b .resident) (getD (c .refs) (b .next) 0) ≡ true → AtReading c s rounds f at k (consumeOne b)
+    pub reading-more : b .next < c .count → isResident (b .resident) (getD (c .refs) (b .next) 0) ≡ true → AtReading c s rounds f at k (consumeOne b) k
     unfolding consumeOne
     reading-more l m =
         let n = refs-are c h in
@@ -306,41 +319,44 @@ module _ {c : Stored} (h : Fits c) {s : List ℕ} {rounds : ℕ} where
             long = p .bounded .long;
             few = p .bounded .few;
           };
-          answer = rw (← same) (p .answer);
+          answer = rw (← same, cond-same (ltb (b .next + 1) (refCount (jobOf c))) k) (rw (due l) at (p .answer));
         }
 
     -- the reading stops
-    stops : consumed (b .resident) (drop (b .next) (jobOf c .refs)) ≡ 0 → BeforeRound c s rounds b f at k
-    stops e =
+    stops : (t : Bool) → ltb (b .next) (refCount (jobOf c)) ≡ t → consumed (b .resident) (drop (b .next) (jobOf c .refs)) ≡ 0
+        → BeforeRound c s rounds b f at k (cond t k charged)
+    stops t q e =
         let same : b .next + consumed (b .resident) (drop (b .next) (jobOf c .refs)) ≡ b .next = omega (arith, e) in
-        record { within = p .within; bounded = p .bounded; answer = rw same at (p .answer) }
+        record { within = p .within; bounded = p .bounded; answer = rw (same, q) at (p .answer) }
 
-    pub reading-missing : b .next < c .count → isResident (b .resident) (getD (c .refs) (b .next) 0) ≡ false → BeforeRound c s rounds b f at k
+    pub reading-missing : b .next < c .count → isResident (b .resident) (getD (c .refs) (b .next) 0) ≡ false → BeforeRound c s rounds b f at k k
     reading-missing l m =
         let n = refs-are c h in
-        stops (read-missing (b .resident) (jobOf c .refs) (b .next) (omega (arith, n)) (rw (ref-at c h (b .next) l) m))
+        stops true (due l) (read-missing (b .resident) (jobOf c .refs) (b .next) (omega (arith, n)) (rw (ref-at c h (b .next) l) m))
 
-    pub reading-over : c .count ≤ b .next → BeforeRound c s rounds b f at k
-    reading-over l = let n = refs-are c h in stops (read-none (b .resident) (jobOf c .refs) (b .next) (omega (arith, n)))
+    pub reading-over : c .count ≤ b .next → BeforeRound c s rounds b f at k charged
+    reading-over l =
+        let n = refs-are c h in
+        stops false (le-ltb (b .next) (refCount (jobOf c)) (omega (arith, n))) (read-none (b .resident) (jobOf c .refs) (b .next) (omega (arith, n)))
 
   -- all rounds are played
-  pub rounds-over : {b : Buffers} {f : List ℕ} {at k : ℕ} → BeforeRound c s rounds b f at k → rounds ≤ k
-      → endOf (ltb (b .next) (c .count)) rounds f (drop at (bits s)) ≡ played (jobOf c) rounds s
+  pub rounds-over : {b : Buffers} {f : List ℕ} {at k charged : ℕ} → BeforeRound c s rounds b f at k charged → rounds ≤ k
+      → endOf (ltb (b .next) (c .count)) charged f (drop at (bits s)) ≡ played (jobOf c) rounds s
   unfolding roundsFrom
-  rounds-over {b} {f} {at} {k} p l =
+  rounds-over {b} {f} {at} {k} {charged} p l =
       let none : rounds - k ≡ 0 = omega arith in
-      ap (λ (n : ℕ). endOf (ltb (b .next) n) rounds f (drop at (bits s))) (sym (refs-are c h)) ∙ (rw none at (p .answer))
+      ap (λ (n : ℕ). endOf (ltb (b .next) n) charged f (drop at (bits s))) (sym (refs-are c h)) ∙ (rw none at (p .answer))
 
 -- the same, with values that are known by equations
-pub round-same : {c : Stored} {s f : List ℕ} {rounds at k : ℕ} {b b′ : Buffers} → b ≡ b′ → BeforeRound c s rounds b′ f at k
-    → BeforeRound c s rounds b f at k
-round-same {c} {s} {f} {rounds} {at} {k} p t = subst (λ (b : Buffers). BeforeRound c s rounds b f at k) (sym p) t
+pub round-same : {c : Stored} {s f : List ℕ} {rounds at k charged : ℕ} {b b′ : Buffers} → b ≡ b′ → BeforeRound c s rounds b′ f at k charged
+    → BeforeRound c s rounds b f at k charged
+round-same {c} {s} {f} {rounds} {at} {k} {charged} p t = subst (λ (b : Buffers). BeforeRound c s rounds b f at k charged) (sym p) t
 
-pub disk-same : {c : Stored} {s : List ℕ} {rounds k d : ℕ} {b b′ : Buffers} {f f′ : List ℕ} {at at′ : ℕ} → b ≡ b′ → f ≡ f′ → at ≡ at′
-    → BeforeDisk c s rounds k b′ f′ at′ d → BeforeDisk c s rounds k b f at d
-disk-same {c} {s} {rounds} {k} {d} p q r t =
-    subst₃ (λ (b : Buffers) (f : List ℕ) (at : ℕ). BeforeDisk c s rounds k b f at d) (sym p) (sym q) (sym r) t
+pub disk-same : {c : Stored} {s : List ℕ} {rounds k charged d : ℕ} {b b′ : Buffers} {f f′ : List ℕ} {at at′ : ℕ} → b ≡ b′ → f ≡ f′ → at ≡ at′
+    → BeforeDisk c s rounds k charged b′ f′ at′ d → BeforeDisk c s rounds k charged b f at d
+disk-same {c} {s} {rounds} {k} {charged} {d} p q r t =
+    subst₃ (λ (b : Buffers) (f : List ℕ) (at : ℕ). BeforeDisk c s rounds k charged b f at d) (sym p) (sym q) (sym r) t
 
-pub reading-same : {c : Stored} {s f : List ℕ} {rounds at k : ℕ} {b b′ : Buffers} → b ≡ b′ → AtReading c s rounds f at k b′
-    → AtReading c s rounds f at k b
-reading-same {c} {s} {f} {rounds} {at} {k} p t = subst (AtReading c s rounds f at k) (sym p) t
+pub reading-same : {c : Stored} {s f : List ℕ} {rounds at k charged : ℕ} {b b′ : Buffers} → b ≡ b′ → AtReading c s rounds f at k b′ charged
+    → AtReading c s rounds f at k b charged
+reading-same {c} {s} {f} {rounds} {at} {k} {charged} p t = subst (λ (b : Buffers). AtReading c s rounds f at k b charged) (sym p) t

@@ -16,23 +16,24 @@ use Rattle.bits.proofs.Logic.{by-test, getD-same}
 use Rattle.bits.proofs.Bits.{length-bytes}
 use Rattle.bits.proofs.Fields.{laid-over, length-laid, laid-below}
 use Rattle.model.specs.Job.{Job, Sound, diskCount, refCount}
-use Rattle.model.specs.Playing.{rounds, start}
+use Rattle.model.specs.Playing.{charged, start}
 use Rattle.model.specs.Rules.{Choice, action, short, sparing}
 use Rattle.model.specs.Plans.{planOf, scheduleOf}
 use Rattle.model.specs.Sheet.{sheetBits, sheetOf}
 use Rattle.model.specs.Page.{pageOf, reasonsOf}
-use Rattle.model.specs.Calls.{Which, isFirst, isSecond, ofTwo, whichFor, isShort, isSparing, chosen, markFor, plannedOf, plannedFor, planHanded, withPage, pageFor, planGiven, pageLength, pageAfter, shortAfter, sparingAfter, written, sheetHanded}
+use Rattle.model.specs.Calls.{countsOf, shortCounts, sparingCounts, Which, isFirst, isSecond, ofTwo, whichFor, isShort, isSparing, chosen, markFor, plannedOf, plannedFor, planHanded, withPage, pageFor, planGiven, pageLength, pageAfter, shortAfter, sparingAfter, written, sheetHanded}
 use Rattle.model.specs.Calls.{PlannedPage as PageGiven}
 use Rattle.model.proofs.Choosing.{Lawful, short-lawful, sparing-lawful}
 use Rattle.model.proofs.Page.{SmallRounds, plan-small, reasons-length, reasons-below, page-size}
+use Rattle.model.proofs.Charged.{schedule-charged}
 use Rattle.model.proofs.Stop.{sound-job}
 use Rattle.model.proofs.Promises.{short-rounds, sparing-rounds}
 use Rattle.choosing.specs.Choosing.{ruleOf}
 use Rattle.choosing.specs.declared.Rule.{Rule}
 use Rattle.choosing.specs.declared.Rule.the-variants.{Short, Sparing}
-use Rattle.planning.specs.Planning.{totalsOf, plansOf}
+use Rattle.driving.specs.declared.Totals.{Totals}
+use Rattle.planning.specs.Planning.{plansOf}
 use Rattle.planning.specs.declared.Plans.{Plans}
-use Rattle.planning.specs.declared.Totals.{Totals}
 use Rattle.printing.specs.Printing.{pageRead}
 use Rattle.printing.proofs.ReadBack.{page-read}
 use Rattle.returning.specs.Returning.{plannedPageAs, whichAs, whichGiven, ofWhich, pageNumber}
@@ -40,7 +41,7 @@ use Rattle.returning.specs.declared.Planned.{Planned}
 use Rattle.returning.specs.declared.PlannedPage.{PlannedPage}
 use Rattle.returning.specs.declared.Which.{Which as WhichOf}
 use Rattle.returning.proofs.TwoSheets.{two-chosen}
-use Rattle.handing.proofs.Rooms.{short-totals, sparing-totals, sheet-long, bothPlans, Gives}
+use Rattle.handing.proofs.Rooms.{totals-charged, short-totals, sparing-totals, sheet-long, bothPlans, Gives}
 
 lawful : (rule : Rule) → Lawful (ruleOf rule)
 lawful Short = short-lawful
@@ -55,11 +56,12 @@ module _ (j : Job) (sound : Sound j) (rule : Rule) where
   unfolding planOf
   small = plan-small (ruleOf rule) (lawful rule) j sound (refCount j) (start j)
 
-  rounds-are : rounds (scheduleOf (ruleOf rule) j) ≡ length plan
-  unfolding rounds scheduleOf
-  rounds-are = length-map plan (map action)
+  rounds-are : charged j (scheduleOf (ruleOf rule) j) ≡ length plan
+  unfolding scheduleOf
+  rounds-are = schedule-charged (ruleOf rule) j ∙ length-map plan (map action)
 
-  most-rounds : (r : Rule) → rounds (scheduleOf (ruleOf r) j) ≤ 2048
+  most-rounds : (r : Rule) → charged j (scheduleOf (ruleOf r) j) ≤ 2048
+  unfolding shortCounts sparingCounts countsOf
   most-rounds Short = short-rounds _ _ j (sound-job j sound) .2
   most-rounds Sparing = sparing-rounds _ _ j (sound-job j sound) .2
 
@@ -110,13 +112,11 @@ module _ (j : Job) (sound : Sound j) (p : Plans) (q : p ≡ plansOf j) where
   abbrev pub lines : ℕ
   lines = length handedPlan * diskCount j
 
-  short-is : p .short .rounds ≡ rounds (scheduleOf (ruleOf Short) j)
-  unfolding totalsOf
-  short-is = ap (λ (t : Totals). t .rounds) (short-totals j sound p q)
+  short-is : p .short .rounds ≡ charged j (scheduleOf (ruleOf Short) j)
+  short-is = ap (λ (t : Totals). t .rounds) (short-totals j sound p q ∙ totals-charged j sound Short)
 
-  sparing-is : p .sparing .rounds ≡ rounds (scheduleOf (ruleOf Sparing) j)
-  unfolding totalsOf
-  sparing-is = ap (λ (t : Totals). t .rounds) (sparing-totals j sound p q)
+  sparing-is : p .sparing .rounds ≡ charged j (scheduleOf (ruleOf Sparing) j)
+  sparing-is = ap (λ (t : Totals). t .rounds) (sparing-totals j sound p q ∙ totals-charged j sound Sparing)
 
   -- it has the page that the definition takes
   handed-is : planHanded (bothPlans j sound p q .mark) j ≡ handedPlan
@@ -135,7 +135,7 @@ module _ (j : Job) (sound : Sound j) (p : Plans) (q : p ≡ plansOf j) where
       ap (λ (x : WhichOf). ofWhich x (p .short .rounds) (p .sparing .rounds)) e ∙ two-chosen w (p .short .rounds) (p .sparing .rounds)
       ∙ (λ i. ofTwo w (short-is i) (sparing-is i)) ∙ go w
     where
-      go : (x : Which) → ofTwo x (rounds (scheduleOf (ruleOf Short) j)) (rounds (scheduleOf (ruleOf Sparing) j)) ≡ length (planOf (ruleOf (ruleFor x)) j)
+      go : (x : Which) → ofTwo x (charged j (scheduleOf (ruleOf Short) j)) (charged j (scheduleOf (ruleOf Sparing) j)) ≡ length (planOf (ruleOf (ruleFor x)) j)
       go isFirst = rounds-are j sound Short
       go isSecond = rounds-are j sound Sparing
 

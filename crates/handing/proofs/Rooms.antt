@@ -12,18 +12,20 @@ use Rattle.bits.proofs.Logic.{by-test}
 use Rattle.bits.proofs.Bits.{length-bytes}
 use Rattle.bits.proofs.Fields.{take-pack}
 use Rattle.model.specs.Job.{Job, Sound}
-use Rattle.model.specs.Playing.{Schedule}
-use Rattle.model.specs.Plans.{scheduleOf}
+use Rattle.model.specs.Playing.{Schedule, charged, fetches}
+use Rattle.model.specs.Plans.{each, scheduleOf}
 use Rattle.model.specs.Sheet.{sheetBits, sheetOf}
 use Rattle.model.specs.Calls.{countsOf, plannedFor, withRooms, plannedOf, shortAfter, sparingAfter, written, returned}
 use Rattle.model.specs.Calls.{Planned as PlanGiven}
+use Rattle.model.proofs.Charged.{schedule-charged}
 use Rattle.model.proofs.Stop.{sound-job}
 use Rattle.model.proofs.Promises.{short-rounds, sparing-rounds}
 use Rattle.choosing.specs.Choosing.{ruleOf}
 use Rattle.choosing.specs.declared.Rule.{Rule}
 use Rattle.choosing.specs.declared.Rule.the-variants.{Short, Sparing}
-use Rattle.planning.specs.Planning.{totalsOf, plansOf}
-use Rattle.planning.specs.declared.Totals.{Totals}
+use Rattle.driving.specs.Driving.{totalsOf}
+use Rattle.driving.specs.declared.Totals.{Totals}
+use Rattle.planning.specs.Planning.{plansOf}
 use Rattle.planning.specs.declared.Plans.{Plans}
 use Rattle.returning.specs.Returning.{plannedAs, roomNumber}
 use Rattle.returning.specs.declared.Planned.{Planned}
@@ -75,6 +77,22 @@ module _ (j : Job) (sound : Sound j) where
   -- the schedule of the short or the sparing rule
   abbrev theSchedule : Rule → Schedule
   theSchedule rule = scheduleOf (ruleOf rule) j
+
+  -- What a plan's driver counts. All rounds that it starts are charged.
+  abbrev chargedTotals : Rule → Totals
+  chargedTotals rule = record {
+    rounds = charged j (theSchedule rule);
+    fetches = each (fetches (theSchedule rule)) 0 8;
+    bits = length (sheetBits (theSchedule rule));
+  }
+
+  pub totals-charged : (rule : Rule) → totalsOf (theSchedule rule) ≡ chargedTotals rule
+  unfolding totalsOf
+  totals-charged rule = λ i. record {
+    rounds = sym (schedule-charged (ruleOf rule) j) i;
+    fetches = each (fetches (theSchedule rule)) 0 8;
+    bits = length (sheetBits (theSchedule rule));
+  }
 
   pub sheet-long : (rule : Rule) → length (sheetOf (theSchedule rule)) ≤ 40962
   sheet-long Sparing = sparing-rounds _ _ j (sound-job j sound) .3
@@ -128,7 +146,7 @@ module _ (j : Job) (sound : Sound j) where
     n-is = sheet-bytes Sparing (p .sparing) sparing-totals
 
     abbrev pub bothPlans : PlanGiven
-    bothPlans = plannedOf (theSchedule Short) (theSchedule Sparing)
+    bothPlans = plannedOf j (theSchedule Short) (theSchedule Sparing)
 
     -- what planning gives for two rooms
     module _ (a b x y number : ℕ) (ex : x ≡ m) (ey : y ≡ n) (e : number ≡ roomNumber x a y b) where
@@ -155,9 +173,9 @@ module _ (j : Job) (sound : Sound j) where
       pub hand-gives : (a : Answer PlanGiven) (short sparing : List ℕ) {r : Planned} {short′ sparing′ : List ℕ} → a ≡ given bothPlans
           → (r ≡ outcomeOf (p .short) m (p .sparing) n) × (short′ ≡ over (take m first) short) × (sparing′ ≡ over (take n second) sparing)
           → Gives a short sparing r short′ sparing′
-      unfolding outcomeOf plannedAs returned plannedOf countsOf totalsOf
+      unfolding outcomeOf plannedAs returned plannedOf countsOf
       hand-gives a short sparing e h =
           gives-given a short sparing _ _ _ bothPlans e
-          (h .0 ∙ (λ i. outcomeOf (short-totals i) (m-is i) (sparing-totals i) (n-is i)))
+          (h .0 ∙ (λ i. outcomeOf ((short-totals ∙ totals-charged Short) i) (m-is i) ((sparing-totals ∙ totals-charged Sparing) i) (n-is i)))
           (copied Short (p .short) short-totals first short _ e₁ (h .1))
           (copied Sparing (p .sparing) sparing-totals second sparing _ e₂ (h .2))

@@ -2,7 +2,7 @@
 use mathlib.Core.Option.{some}
 use Prim.Native.Nat.{ℕ}
 use Rattle.model.specs.Calls.{markFor, chosen}
-use Rattle.planning.specs.declared.Totals.{Totals}
+use Rattle.driving.specs.declared.Totals.{Totals}
 use Rattle.returning.specs.Returning.{markAs}
 use Rattle.returning.specs.declared.Counts.{Counts}
 use Rattle.returning.specs.declared.Planned.{Planned}

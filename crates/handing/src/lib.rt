@@ -1,7 +1,7 @@
 // Planning of a job into lent buffers: both sheets, and the page of the plan handed back, where all fit. Document 01, planning; document 02, L2.
+use driving::Totals;
 use job::Job;
 use planning::Plans;
-use planning::Totals;
 use returning::Counts;
 use returning::Planned;
 use returning::PlannedPage;

@@ -365,8 +365,8 @@ table =
     row (check ticketTwo (hex 6 0x00280100c000)) (number 20) refl ∷
     row (check ticketF (hex 10 0x00280101201802038080)) (number 20) refl ∷
     row (check ticketG (hex 6 0x002800806000)) (number 20) refl ∷
-    -- "tested once the discard bit is read as 1 and before the discarded block's field", so before 9 of that field and before 14: the sheet ends inside
-    -- the field, and block 0 is discarded from the empty buffer. Where the one slot is taken, 9 and 14 stand above.
+    -- "tested once the discard bit is read as 1 and before the discarded block's field", so before 9 of that field and before 14: the sheet ends
+    -- inside the field, and block 0 is discarded from the empty buffer. Where the one slot is taken, 9 and 14 stand above.
     row (check ticketA (hex 3 0x001802)) (number 20) refl ∷
     row (check ticketA (hex 4 0x00180200)) (number 20) refl ∷
     -- 11 and 12 come before it, with the discard bit 1: block 5 of 2, and block 0 again, which is resident beside an empty slot.
@@ -384,21 +384,21 @@ table =
     row (choose ticketTwo (hex 6 0x00280100c000) (hex 2 0x0000)) (number 20) refl ∷
     row (choose ticketTwo (hex 5 0x0028010080) (hex 6 0x00280100c000)) (number 20) refl ∷
     -- Request L1: "The second is handed back if it takes no more rounds than the first, otherwise the first". F's two sheets of 4 rounds, in either
-    -- order; G's, of 6 and 7 rounds; A's with an idle round more, which is counted.
+    -- order; G's, of 6 and 7 rounds.
     row (choose ticketF (hex 14 0x00480101101a018020480d01c080) (hex 11 0x00480101101a0180081202)) (chose isSecond 11) refl ∷
     row (choose ticketF (hex 11 0x00480101101a0180081202) (hex 14 0x00480101101a018020480d01c080)) (chose isSecond 14) refl ∷
     row (choose ticketG (hex 23 0x0068010220140a8090320380a078120280e0481e038080) (hex 23 0x0078010220140a809032038090140703c0c81a0780e020)) (chose isFirst 23) refl ∷
     row (choose ticketG (hex 23 0x0078010220140a809032038090140703c0c81a0780e020) (hex 23 0x0068010220140a8090320380a078120280e0481e038080)) (chose isSecond 23) refl ∷
-    row (choose ticketA (hex 3 0x001800) (hex 3 0x002800)) (chose isFirst 3) refl ∷
-    -- "both are checked, the first before the second": the ticket's number before either sheet's; the first's before the second's, in both orders; and
-    -- the number of a bad sheet beside a good one.
+    -- "both are checked, the first before the second": the ticket's number before either sheet's; the first's before the second's, in both orders;
+    -- and the number of a bad sheet beside a good one.
     row (choose (hex 6 0x102008001001) [] (hex 2 0x0000)) (number 8) refl ∷
     row (choose ticketA [] (hex 2 0x0000)) (number 9) refl ∷
     row (choose ticketA (hex 2 0x0000) []) (number 15) refl ∷
     row (choose ticketA (hex 3 0x001801) (hex 3 0x001800)) (number 16) refl ∷
     row (choose ticketA (hex 3 0x001800) (hex 3 0x001801)) (number 16) refl ∷
-    -- Request L2: the page of the plan handed back, in a buffer of its exact length. B's, of no rounds, is the legend alone; F's, of the sparing plan,
-    -- has all five letters; G's is of the short plan: "Round 4, disk 0 of case G reads `   4 0   3   2 M`". The last has numbers of more digits.
+    -- Request L2: the page of the plan handed back, in a buffer of its exact length. B's, of no rounds, is the legend alone; F's, of the sparing
+    -- plan, has all five letters; G's is of the short plan: "Round 4, disk 0 of case G reads `   4 0   3   2 M`". The last has numbers of more
+    -- digits.
     row (page ticketB 2 2 85) (pageWith []) refl ∷
     row (page ticketF 14 11 221) (pageWith linesF) refl ∷
     row (page ticketG 23 23 289) (pageWith linesG) refl ∷
@@ -411,27 +411,27 @@ table =
     row (page ticketF 14 10 0) (number 18) refl ∷
     row (page ticketF 13 11 0) (number 17) refl ∷
     row (page (hex 7 0x10200800100000) 40962 40962 0) (number 8) refl ∷
-    -- Request L5: "the number of references that count; none at or past it is consumed". A up to 0, and G up to 5, where disk 1 has no U after block 4:
-    -- its plans, a check of them, a choice, and the page. G's own short sheet also passes there, and A's passes for no reference.
+    -- Request L5: "the number of references that count; none at or past it is consumed". A up to 0, and G up to 5, where disk 1 has no U after block
+    -- 4: its plans, a check of them, a choice, and the page. G's own short sheet also passes there, and A's passes for no reference.
     rowUpTo 0 (read ticketA) (jobWith (1 ∷ []) (0 ∷ []) []) refl ∷
     rowUpTo 0 (plan ticketA) (planned isSparing 2 (counts 0 0 0) (counts 0 0 0) (hex 2 0x0000) (hex 2 0x0000)) refl ∷
     rowUpTo 0 (check ticketA (hex 2 0x0000)) (passes (counts 0 0 0)) refl ∷
-    rowUpTo 0 (check ticketA (hex 3 0x001800)) (passes (counts 1 1 0)) refl ∷
+    rowUpTo 0 (check ticketA (hex 3 0x001800)) (passes (counts 0 1 0)) refl ∷
     rowUpTo 5 (read ticketG) (jobWith (3 ∷ 3 ∷ []) (0 ∷ 0 ∷ 0 ∷ 0 ∷ 1 ∷ 1 ∷ 1 ∷ 1 ∷ []) (0 ∷ 1 ∷ 2 ∷ 4 ∷ 3 ∷ [])) refl ∷
     rowUpTo 5 (plan ticketG) (planned isSparing 10 (counts 4 4 1) (counts 4 4 1) (hex 10 0x00480102201202203808) (hex 10 0x00480102201202203808)) refl ∷
     rowUpTo 5 (check ticketG (hex 10 0x00480102201202203808)) (passes (counts 4 4 1)) refl ∷
-    rowUpTo 5 (check ticketG (hex 23 0x0068010220140a8090320380a078120280e0481e038080)) (passes (counts 6 6 5)) refl ∷
+    rowUpTo 5 (check ticketG (hex 23 0x0068010220140a8090320380a078120280e0481e038080)) (passes (counts 4 6 5)) refl ∷
     rowUpTo 5 (choose ticketG (hex 23 0x0068010220140a8090320380a078120280e0481e038080) (hex 10 0x00480102201202203808)) (chose isSecond 10) refl ∷
     rowUpTo 5 (page ticketG 10 10 221) (pageWith linesG5) refl ∷
     -- The reference at the stop is the first that does not count: after that sheet the references 5 and 6 are in the buffers, and 7 is not.
     rowUpTo 7 (check ticketG (hex 10 0x00480102201202203808)) (passes (counts 4 4 1)) refl ∷
     rowUpTo 8 (check ticketG (hex 10 0x00480102201202203808)) (number 15) refl ∷
-    -- "The lookup of the next reference now answers "never" for references at or past the stop": for the string 0 1 2 1 block 2 replaces block 0, which
-    -- is not read again; up to 3 neither of the two is, and it replaces block 1, the highest.
+    -- "The lookup of the next reference now answers "never" for references at or past the stop": for the string 0 1 2 1 block 2 replaces block 0,
+    -- which is not read again; up to 3 neither of the two is, and it replaces block 1, the highest.
     row (plan ticketAgain) (planned isSparing 7 (counts 3 3 0) (counts 3 3 0) (hex 7 0x00380100a02800) (hex 7 0x00380100a02800)) refl ∷
     rowUpTo 3 (plan ticketAgain) (planned isSparing 7 (counts 3 3 0) (counts 3 3 0) (hex 7 0x00380100a02804) (hex 7 0x00380100a02804)) refl ∷
-    -- "21, the stop is above N, tested after 8": a stop of N + 1 with no room and with the empty sheet, and the largest of a `usize`; the ticket's number
-    -- comes first, 1 and 8, with either. (A stop of N is that of every row without one.)
+    -- "21, the stop is above N, tested after 8": a stop of N + 1 with no room and with the empty sheet, and the largest of a `usize`; the ticket's
+    -- number comes first, 1 and 8, with either. (A stop of N is that of every row without one.)
     rowUpTo 2 (planInto ticketA 0 0) (number 21) refl ∷
     rowUpTo 2 (page ticketA 0 0 0) (number 21) refl ∷
     rowUpTo 2 (check ticketA []) (number 21) refl ∷
@@ -449,15 +449,32 @@ table =
     rowUpTo 2 (planFromC ticketA (hex 3 0xffffff)) (writes (hex 3 0xffffff)) refl ∷
     rowUpTo 2 (checkFromC ticketA (hex 3 0x001800) (hex 3 0xffffff)) (writes (hex 3 0xffffff)) refl ∷
     rowUpTo 2 (chooseFromC ticketA (hex 3 0x001800) (hex 3 0x001800) (hex 3 0xffffff)) (writes (hex 3 0xffffff)) refl ∷
-    -- From C: "in 16 bits each and most significant byte first: for planning the mark (0 short, 1 sparing), the length of the part, then for the short
-    -- and for the sparing plan the rounds and eight fetch counts; for the check the rounds and eight fetch counts", and by L1 "0 (first) or 1 (second)
-    -- and that sheet's length". "As far as that slice reaches", and no byte more; "a refusal writes nothing there".
+    -- Request L7: "the room now charges up to the round in which the last reference is consumed .., 0 where nothing had to be fetched. Fetches are
+    -- still counted to the end". A with an idle round at the end, and with one before its fetch, which is charged; no reference and an idle round;
+    -- G's short sheet up to 4, where its third round reads the last, and with three idle rounds more.
+    row (check ticketA (hex 3 0x002800)) (passes (counts 1 1 0)) refl ∷
+    row (check ticketA (hex 3 0x002400)) (passes (counts 2 1 0)) refl ∷
+    rowUpTo 0 (check ticketA (hex 2 0x0010)) (passes (counts 0 0 0)) refl ∷
+    rowUpTo 4 (check ticketG (hex 23 0x0068010220140a8090320380a078120280e0481e038080)) (passes (counts 3 6 5)) refl ∷
+    row (check ticketG (hex 24 0x0098010220140a8090320380a078120280e0481e03808000)) (passes (counts 6 6 5)) refl ∷
+    -- What is written after the last reference is checked all the same: the end inside an action, a fetch of a block that is there, a byte too many.
+    row (check ticketA (hex 3 0x002801)) (number 9) refl ∷
+    row (check ticketA (hex 5 0x0028010000)) (number 12) refl ∷
+    row (check ticketA (hex 4 0x00280000)) (number 16) refl ∷
+    -- "The choice of L1 and the claim of fewest rounds use the charged number": A's sheet with an idle round more is as good as without; G's short
+    -- sheet of nine rounds, six of them charged, against the sparing one of seven, and of eight with seven charged.
+    row (choose ticketA (hex 3 0x001800) (hex 3 0x002800)) (chose isSecond 3) refl ∷
+    row (choose ticketG (hex 23 0x0078010220140a809032038090140703c0c81a0780e020) (hex 24 0x0098010220140a8090320380a078120280e0481e03808000)) (chose isSecond 24) refl ∷
+    row (choose ticketG (hex 24 0x0098010220140a8090320380a078120280e0481e03808000) (hex 23 0x0088010220140a809032038090140703c0c81a0780e020)) (chose isFirst 24) refl ∷
+    -- From C: "in 16 bits each and most significant byte first: for planning the mark (0 short, 1 sparing), the length of the part, then for the
+    -- short and for the sparing plan the rounds and eight fetch counts; for the check the rounds and eight fetch counts", and by L1 "0 (first) or 1
+    -- (second) and that sheet's length". "As far as that slice reaches", and no byte more; "a refusal writes nothing there".
     row (planFromC ticketF (hex 41 0xffffffffffffffffffffffffffffffffffffffffffffffffffffffffffffffffffffffffffffffffff)) (writes (hex 41 0x0001000b000400020004000000000000000000000000000400020003000000000000000000000000ff)) refl ∷
     row (planFromC ticketG (hex 5 0xffffffffff)) (writes (hex 5 0x0000001700)) refl ∷
     row (planFromC [] (hex 3 0xffffff)) (writes (hex 3 0xffffff)) refl ∷
     row (checkFromC ticketF (hex 11 0x00480101101a0180081202) (hex 19 0xffffffffffffffffffffffffffffffffffffff)) (writes (hex 19 0x000400020003000000000000000000000000ff)) refl ∷
     row (checkFromC ticketA (hex 2 0x0000) (hex 3 0xffffff)) (writes (hex 3 0xffffff)) refl ∷
     row (chooseFromC ticketF (hex 14 0x00480101101a018020480d01c080) (hex 11 0x00480101101a0180081202) (hex 5 0xffffffffff)) (writes (hex 5 0x0001000bff)) refl ∷
-    row (chooseFromC ticketA (hex 3 0x001800) (hex 3 0x002800) (hex 3 0xffffff)) (writes (hex 3 0x000000)) refl ∷
+    row (chooseFromC ticketA (hex 3 0x001800) (hex 3 0x002800) (hex 3 0xffffff)) (writes (hex 3 0x000100)) refl ∷
     row (chooseFromC ticketA (hex 3 0x001800) (hex 3 0x001801) (hex 3 0xffffff)) (writes (hex 3 0xffffff)) refl ∷
     []

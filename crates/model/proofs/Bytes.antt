@@ -16,7 +16,7 @@ use Rattle.bits.proofs.Logic.{by-test, Each}
 use Rattle.bits.proofs.Bits.{Bits, bits-pack, digits-are}
 use Rattle.bits.proofs.Reading.{refused-given}
 use Rattle.model.specs.Job.{Sound, Job, diskCount, refCount}
-use Rattle.model.specs.Playing.{Action, idle, fetch, replace, Schedule, State, start, playRound, play, rounds, fetched, total, fetches}
+use Rattle.model.specs.Playing.{Action, idle, fetch, replace, Schedule, State, start, playRound, play, charged, fetched, total, fetches}
 use Rattle.model.specs.Rules.{action, Rule, short, sparing}
 use Rattle.model.specs.Plans.{each, choices, planFrom, planOf, scheduleOf}
 use Rattle.model.specs.Sheet.{actionBits, roundBits, roundsBits, sheetBits, sheetOf}
@@ -25,6 +25,7 @@ use Rattle.model.specs.Calls.{jobUpTo, Counts, countsOf, fetchesOn, shor
 use Rattle.model.proofs.Choosing.{Lawful, short-lawful, sparing-lawful}
 use Rattle.model.proofs.Rounds.{ready-start, ready-after}
 use Rattle.model.proofs.Plans.{length-each, actionsOf, plan-round, plan-consumes, plan-valid, plan-full, plan-few}
+use Rattle.model.proofs.Charged.{plan-charged, schedule-charged}
 use Rattle.model.proofs.Short.{ahead-self, short-unbeaten}
 use Rattle.model.proofs.Sparing.{sparing-unbeaten}
 use Rattle.model.proofs.Stop.{job-sound}
@@ -39,24 +40,24 @@ one-job : (t : List ℕ) (stop : ℕ) {i j : Job} → jobUpTo t stop ≡ given i
 one-job t stop p q = cc
 
 pub passes-valid : (t : List ℕ) (stop : ℕ) (s : List ℕ) (c : Counts) → checkAnswer t stop s ≡ given c
-    → (j : Job) × (schedule : Schedule) × (jobUpTo t stop ≡ given j) × ValidSheet j s schedule × (countsOf schedule ≡ c)
+    → (j : Job) × (schedule : Schedule) × (jobUpTo t stop ≡ given j) × ValidSheet j s schedule × (countsOf j schedule ≡ c)
 passes-valid t stop s c e =
     let p = passed t stop s c e in
     (p .job, p .schedule, p .ticket, read-valid (p .job) (p .sound) s (p .schedule) (p .read), p .counts)
 
 -- what the check gives for a sheet of document 01
 pub legal-answer : (t : List ℕ) (stop : ℕ) (s : List ℕ) (j : Job) (schedule : Schedule) → jobUpTo t stop ≡ given j → LegalSheet j s schedule
-    → checkAnswer t stop s ≡ cond (discardsFullFrom j (start j) schedule) (given (countsOf schedule)) (refused 20)
+    → checkAnswer t stop s ≡ cond (discardsFullFrom j (start j) schedule) (given (countsOf j schedule)) (refused 20)
 unfolding checkAnswer checkFor passOf
-legal-answer t stop s j schedule e v = ap (checkFor s) e ∙ ap passOf (legal-read j (job-sound t stop j e) s schedule v) ∙ pass-if (discardsFullFrom j (start j) schedule)
+legal-answer t stop s j schedule e v = ap (checkFor s) e ∙ ap (passOf j) (legal-read j (job-sound t stop j e) s schedule v) ∙ pass-if (discardsFullFrom j (start j) schedule)
   where
-    pass-if : (full : Bool) → passOf (cond full (given schedule) (refused 20)) ≡ cond full (given (countsOf schedule)) (refused 20)
+    pass-if : (full : Bool) → passOf j (cond full (given schedule) (refused 20)) ≡ cond full (given (countsOf j schedule)) (refused 20)
     pass-if true = refl
     pass-if false = refl
 
-pub valid-passes : (t : List ℕ) (stop : ℕ) (s : List ℕ) (j : Job) (schedule : Schedule) → jobUpTo t stop ≡ given j → ValidSheet j s schedule → checkAnswer t stop s ≡ given (countsOf schedule)
+pub valid-passes : (t : List ℕ) (stop : ℕ) (s : List ℕ) (j : Job) (schedule : Schedule) → jobUpTo t stop ≡ given j → ValidSheet j s schedule → checkAnswer t stop s ≡ given (countsOf j schedule)
 valid-passes t stop s j schedule e v =
-    legal-answer t stop s j schedule e (v .legal) ∙ ap (λ (full : Bool). cond full (given (countsOf schedule)) (refused 20)) (v .full)
+    legal-answer t stop s j schedule e (v .legal) ∙ ap (λ (full : Bool). cond full (given (countsOf j schedule)) (refused 20)) (v .full)
 
 -- the eight counts
 
@@ -66,13 +67,13 @@ getD-each f i zero k x l = absurd (omega arith)
 getD-each f i (suc n) zero x l = ap f (let e : i ≡ i + 0 = omega arith in e)
 getD-each f i (suc n) (suc k) x l = getD-each f (suc i) n k x (omega arith) ∙ ap f (let e : suc i + k ≡ i + suc k = omega arith in e)
 
-fetches-on : (schedule : Schedule) (d : ℕ) → d < 8 → fetchesOn (countsOf schedule) d ≡ fetches schedule d
+pub fetches-on : (j : Job) (schedule : Schedule) (d : ℕ) → d < 8 → fetchesOn (countsOf j schedule) d ≡ fetches schedule d
 unfolding countsOf
-fetches-on schedule d l = getD-each (fetches schedule) 0 8 d 0 l ∙ ap (fetches schedule) (let e : 0 + d ≡ d = omega arith in e)
+fetches-on j schedule d l = getD-each (fetches schedule) 0 8 d 0 l ∙ ap (fetches schedule) (let e : 0 + d ≡ d = omega arith in e)
 
-fetches-beyond : (schedule : Schedule) (d : ℕ) → 8 ≤ d → fetchesOn (countsOf schedule) d ≡ 0
+pub fetches-beyond : (j : Job) (schedule : Schedule) (d : ℕ) → 8 ≤ d → fetchesOn (countsOf j schedule) d ≡ 0
 unfolding countsOf
-fetches-beyond schedule d l = List·getD-eq-default (each (fetches schedule) 0 8) 0 {n = d} (let e = length-each (fetches schedule) 0 8 in omega (arith, e))
+fetches-beyond j schedule d l = List·getD-eq-default (each (fetches schedule) 0 8) 0 {n = d} (let e = length-each (fetches schedule) 0 8 in omega (arith, e))
 
 fetches-none : (schedule : Schedule) (d : ℕ) → total fetched d schedule ≡ 0 → fetches schedule d ≡ 0
 unfolding fetches
@@ -97,12 +98,12 @@ module _ (j : Job) (sound : Sound j) (schedule : Schedule) (v : ValidFrom j (sta
   ready : Ready j (start j)
   ready = ready-start j (sound .fewBlocks)
 
-  in-rounds : rounds (scheduleOf short j) ≤ rounds schedule
-  unfolding rounds scheduleOf planOf
+  in-rounds : charged j (scheduleOf short j) ≤ charged j schedule
+  unfolding charged scheduleOf planOf
   in-rounds =
-      let l = length-map (planFrom short j (refCount j) (start j)) (map action) in
+      let c = plan-charged short j (refCount j) (start j) in
       let u = short-unbeaten j sound (refCount j) (start j) (start j) schedule ready (ahead-self j (start j)) v in
-      omega (arith, l, u)
+      omega (arith, c, u)
 
   in-fetches : (d : ℕ) → fetches (scheduleOf sparing j) d ≤ fetches schedule d
   unfolding scheduleOf planOf
@@ -114,23 +115,23 @@ module _ (j : Job) (sound : Sound j) (schedule : Schedule) (v : ValidFrom j (sta
       none : diskCount j ≤ d → fetches (map (map action) (planFrom sparing j (refCount j) (start j))) d ≡ 0
       none l = fetches-none (map (map action) (planFrom sparing j (refCount j) (start j))) d (plan-elsewhere sparing j d (refCount j) (start j) l)
 
-  counts-unbeaten : (shortCounts j .rounds ≤ countsOf schedule .rounds) × ((d : ℕ) → fetchesOn (sparingCounts j) d ≤ fetchesOn (countsOf schedule) d)
+  counts-unbeaten : (shortCounts j .rounds ≤ countsOf j schedule .rounds) × ((d : ℕ) → fetchesOn (sparingCounts j) d ≤ fetchesOn (countsOf j schedule) d)
   unfolding shortCounts sparingCounts countsOf
   counts-unbeaten = (
     in-rounds,
     λ d.
         by-test (ltb d 8)
         (λ e. let l = ltb-true d 8 e in
-        let a = fetches-on (scheduleOf sparing j) d l in
-        let b = fetches-on schedule d l in
+        let a = fetches-on j (scheduleOf sparing j) d l in
+        let b = fetches-on j schedule d l in
         let f = in-fetches d in
         omega (arith, a, b, f))
-        (λ e. let z = fetches-beyond (scheduleOf sparing j) d (ltb-false d 8 e) in omega (arith, z)),
+        (λ e. let z = fetches-beyond j (scheduleOf sparing j) d (ltb-false d 8 e) in omega (arith, z)),
   )
 
 -- Of any sheet that document 01 lets pass,
 pub legal-unbeaten : (t : List ℕ) (stop : ℕ) (s : List ℕ) (j : Job) (schedule : Schedule) → jobUpTo t stop ≡ given j → LegalSheet j s schedule
-    → (shortCounts j .rounds ≤ countsOf schedule .rounds) × ((d : ℕ) → fetchesOn (sparingCounts j) d ≤ fetchesOn (countsOf schedule) d)
+    → (shortCounts j .rounds ≤ countsOf j schedule .rounds) × ((d : ℕ) → fetchesOn (sparingCounts j) d ≤ fetchesOn (countsOf j schedule) d)
 legal-unbeaten t stop s j schedule e v = counts-unbeaten j (job-sound t stop j e) schedule (v .valid)
 
 -- so of any that passes.
@@ -138,9 +139,10 @@ pub unbeaten : (t : List ℕ) (stop : ℕ) (s : List ℕ) (j : Job) (c : Counts)
     → (shortCounts j .rounds ≤ c .rounds) × ((d : ℕ) → fetchesOn (sparingCounts j) d ≤ fetchesOn c d)
 unbeaten t stop s j c e pass =
     let v = passes-valid t stop s c pass in
-    let sheet = subst (λ (x : Job). ValidSheet x s (v .1)) (one-job t stop (v .2) e) (v .3) in
-    subst (λ (x : Counts). (shortCounts j .rounds ≤ x .rounds) × ((d : ℕ) → fetchesOn (sparingCounts j) d ≤ fetchesOn x d)) (v .4)
-    (legal-unbeaten t stop s j (v .1) e (sheet .legal))
+    let i = v .0 in
+    subst (λ (x : Job). (shortCounts x .rounds ≤ c .rounds) × ((d : ℕ) → fetchesOn (sparingCounts x) d ≤ fetchesOn c d)) (one-job t stop (v .2) e)
+    (subst (λ (x : Counts). (shortCounts i .rounds ≤ x .rounds) × ((d : ℕ) → fetchesOn (sparingCounts i) d ≤ fetchesOn x d)) (v .4)
+    (legal-unbeaten t stop s i (v .1) (v .2) (v .3 .legal)))
 
 -- Demand 2. The bits of a sheet are bits, so its bytes hold them and the closing zeros.
 
@@ -183,18 +185,17 @@ module _ (rule : Rule) (lawful : Lawful rule) (t : List ℕ) (stop : ℕ) (j : J
   schedule-full = plan-full rule lawful j sound (refCount j) (start j) (ready-start j (sound .fewBlocks))
 
   -- "neither takes more than N rounds"
-  pub schedule-few : rounds (scheduleOf rule j) ≤ refCount j
-  unfolding scheduleOf planOf rounds
+  pub schedule-few : length (scheduleOf rule j) ≤ refCount j
+  unfolding scheduleOf planOf
   schedule-few =
       let l = length-map (planFrom rule j (refCount j) (start j)) (map action) in
       let f = plan-few rule lawful j sound (refCount j) (start j) (ready-start j (sound .fewBlocks)) in
       omega (arith, l, f)
 
-  pub schedule-most : rounds (scheduleOf rule j) ≤ 2048
+  pub schedule-most : length (scheduleOf rule j) ≤ 2048
   schedule-most = let f = schedule-few in let n = sound .fewRefs in omega (arith, f, n)
 
-  pub schedule-passes : checkAnswer t stop (sheetOf (scheduleOf rule j)) ≡ given (countsOf (scheduleOf rule j))
-  unfolding rounds
+  pub schedule-passes : checkAnswer t stop (sheetOf (scheduleOf rule j)) ≡ given (countsOf j (scheduleOf rule j))
   schedule-passes =
       valid-passes t stop (sheetOf (scheduleOf rule j)) j (scheduleOf rule j) e
       (record { legal = legal-sheet j (scheduleOf rule j) schedule-most schedule-valid; full = schedule-full })
@@ -227,9 +228,9 @@ consumes-from rule lawful j sound (suc most) s ready k l =
     step ih zero l due = plan-consumes rule lawful j sound s ready due
     step ih (suc k) l due = ih k (omega arith)
 
-schedule-consumes : (rule : Rule) → Lawful rule → (t : List ℕ) (stop : ℕ) (j : Job) → jobUpTo t stop ≡ given j → (k : ℕ) → k < rounds (scheduleOf rule j)
+schedule-consumes : (rule : Rule) → Lawful rule → (t : List ℕ) (stop : ℕ) (j : Job) → jobUpTo t stop ≡ given j → (k : ℕ) → k < length (scheduleOf rule j)
     → play j (start j) (take k (scheduleOf rule j)) .next < play j (start j) (take (suc k) (scheduleOf rule j)) .next
-unfolding scheduleOf planOf rounds
+unfolding scheduleOf planOf
 schedule-consumes rule lawful t stop j e =
     let sound = job-sound t stop j e in
     consumes-from rule lawful j sound (refCount j) (start j) (ready-start j (sound .fewBlocks))
@@ -237,7 +238,7 @@ schedule-consumes rule lawful t stop j e =
 -- The sheet that planning hands back.
 
 -- what a planning call that is not refused gives
-pub planned : (t : List ℕ) (stop a b : ℕ) (p : Planned) → planAnswer t stop a b ≡ given p → (j : Job) × (jobUpTo t stop ≡ given j) × (plannedOf (scheduleOf short j) (scheduleOf sparing j) ≡ p)
+pub planned : (t : List ℕ) (stop a b : ℕ) (p : Planned) → planAnswer t stop a b ≡ given p → (j : Job) × (jobUpTo t stop ≡ given j) × (plannedOf j (scheduleOf short j) (scheduleOf sparing j) ≡ p)
 unfolding planAnswer plannedFor withRooms
 planned t stop a b p e = go (jobUpTo t stop) refl e
   where
@@ -250,7 +251,7 @@ planned t stop a b p e = go (jobUpTo t stop) refl e
         (λ y. refused-given (rw y at k))
         (λ m. let f : given q ≡ given p = rw m at k in cc))
 
-    go : (x : Answer Job) → jobUpTo t stop ≡ x → plannedFor a b x ≡ given p → (j : Job) × (jobUpTo t stop ≡ given j) × (plannedOf (scheduleOf short j) (scheduleOf sparing j) ≡ p)
+    go : (x : Answer Job) → jobUpTo t stop ≡ x → plannedFor a b x ≡ given p → (j : Job) × (jobUpTo t stop ≡ given j) × (plannedOf j (scheduleOf short j) (scheduleOf sparing j) ≡ p)
     go (given j) q h = (j, q, fits _ h)
     go (refused n) q h = refused-given h
 
@@ -288,24 +289,24 @@ HandedBack t stop p =
     × ((s : List ℕ) (c : Counts) → checkAnswer t stop s ≡ given c → (handedCounts p .rounds ≤ c .rounds) × ((d : ℕ) → fetchesOn (p .sparing) d ≤ fetchesOn c d))
 
 -- either plan's sheet, where the mark says that it is as short as the short plan's
-handed-of : (t : List ℕ) (stop : ℕ) (j : Job) → jobUpTo t stop ≡ given j → (m : Mark) → markFor (rounds (scheduleOf short j)) (rounds (scheduleOf sparing j)) ≡ m
+handed-of : (t : List ℕ) (stop : ℕ) (j : Job) → jobUpTo t stop ≡ given j → (m : Mark) → markFor (charged j (scheduleOf short j)) (charged j (scheduleOf sparing j)) ≡ m
     → (checkAnswer t stop (chosen m (sheetOf (scheduleOf short j)) (sheetOf (scheduleOf sparing j))) ≡ given (chosen m (shortCounts j) (sparingCounts j)))
     × ((s : List ℕ) (c : Counts) → checkAnswer t stop s ≡ given c → chosen m (shortCounts j) (sparingCounts j) .rounds ≤ c .rounds)
 unfolding shortCounts sparingCounts
 handed-of t stop j e isShort q = (schedule-passes short short-lawful t stop j e, λ s c h. unbeaten t stop s j c e h .0)
 handed-of t stop j e isSparing q = (
   schedule-passes sparing sparing-lawful t stop j e,
-  λ s c h. (let k = unbeaten t stop s j c e h .0 in let few = mark-sparing (rounds (scheduleOf short j)) (rounds (scheduleOf sparing j)) .0 q in omega (arith, k, few)),
+  λ s c h. (let k = unbeaten t stop s j c e h .0 in let few = mark-sparing (charged j (scheduleOf short j)) (charged j (scheduleOf sparing j)) .0 q in omega (arith, k, few)),
 )
 
 -- the sparing plan takes no fewer rounds than the short one, so no more means equally many
 mark-equal : (t : List ℕ) (stop : ℕ) (j : Job) → jobUpTo t stop ≡ given j
-    → (markFor (rounds (scheduleOf short j)) (rounds (scheduleOf sparing j)) ≡ isSparing) ↔ (rounds (scheduleOf short j) ≡ rounds (scheduleOf sparing j))
+    → (markFor (charged j (scheduleOf short j)) (charged j (scheduleOf sparing j)) ≡ isSparing) ↔ (charged j (scheduleOf short j) ≡ charged j (scheduleOf sparing j))
 unfolding shortCounts countsOf
 mark-equal t stop j e =
-    let a = rounds (scheduleOf short j) in
-    let b = rounds (scheduleOf sparing j) in
-    let least : a ≤ b = unbeaten t stop (sheetOf (scheduleOf sparing j)) j (countsOf (scheduleOf sparing j)) e (schedule-passes sparing sparing-lawful t stop j e) .0 in
+    let a = charged j (scheduleOf short j) in
+    let b = charged j (scheduleOf sparing j) in
+    let least : a ≤ b = unbeaten t stop (sheetOf (scheduleOf sparing j)) j (countsOf j (scheduleOf sparing j)) e (schedule-passes sparing sparing-lawful t stop j e) .0 in
     (λ q. let few = mark-sparing a b .0 q in omega (arith, least, few), λ q. mark-sparing a b .1 (omega (arith, q)))
 
 part-of : (a b : Schedule) (m : Mark) → length (chosen m (sheetOf a) (sheetOf b)) ≡ chosen m (length (sheetOf a)) (length (sheetOf b))
@@ -317,10 +318,10 @@ unfolding plannedOf countsOf shortCounts sparingCounts
 handed-back t stop a b p e =
     let w = planned t stop a b p e in
     let j = w .0 in
-    let h = handed-of t stop j (w .1) (markFor (rounds (scheduleOf short j)) (rounds (scheduleOf sparing j))) refl in
+    let h = handed-of t stop j (w .1) (markFor (charged j (scheduleOf short j)) (charged j (scheduleOf sparing j))) refl in
     subst (HandedBack t stop) (w .2) (
       mark-equal t stop j (w .1),
-      part-of (scheduleOf short j) (scheduleOf sparing j) (markFor (rounds (scheduleOf short j)) (rounds (scheduleOf sparing j))),
+      part-of (scheduleOf short j) (scheduleOf sparing j) (markFor (charged j (scheduleOf short j)) (charged j (scheduleOf sparing j))),
       h .0,
       λ s c pass. (h .1 s c pass, unbeaten t stop s j c (w .1) pass .1),
     )
@@ -347,7 +348,7 @@ part-handed t stop short′ sparing′ p e =
     let j = w .0 in
     let a = scheduleOf short j in
     let b = scheduleOf sparing j in
-    let m = markFor (rounds a) (rounds b) in
+    let m = markFor (charged j a) (charged j b) in
     subst (λ (x : Planned). partAfter (given x) short′ sparing′ ≡ handed x) (w .2)
     (ap (λ (n : ℕ). take n (chosen m (over (sheetOf a) short′) (over (sheetOf b) sparing′))) (sym (part-of a b m)) ∙ part-chosen m (sheetOf a) (sheetOf b) short′ sparing′)
 
@@ -369,11 +370,14 @@ planned-counts t stop j a b p q e =
 -- the remaining promises, as they are stated
 
 pub rounds-few : (rule : Rule) → Lawful rule → (t : List ℕ) (stop : ℕ) (j : Job) → jobUpTo t stop ≡ given j
-    → ((k : ℕ) → k < rounds (scheduleOf rule j) → play j (start j) (take k (scheduleOf rule j)) .next < play j (start j) (take (suc k) (scheduleOf rule j)) .next)
-    × (rounds (scheduleOf rule j) ≤ refCount j) × (rounds (scheduleOf rule j) ≤ 2048) × (length (sheetOf (scheduleOf rule j)) ≤ 40962)
+    → ((k : ℕ) → k < length (scheduleOf rule j) → play j (start j) (take k (scheduleOf rule j)) .next < play j (start j) (take (suc k) (scheduleOf rule j)) .next)
+    × (charged j (scheduleOf rule j) ≤ refCount j) × (charged j (scheduleOf rule j) ≤ 2048) × (length (sheetOf (scheduleOf rule j)) ≤ 40962)
 rounds-few rule lawful t stop j e =
-    (schedule-consumes rule lawful t stop j e, schedule-few rule lawful t stop j e, schedule-most rule lawful t stop j e, schedule-fits rule lawful t stop j e)
+    let all = schedule-charged rule j in
+    let few = schedule-few rule lawful t stop j e in
+    let most = schedule-most rule lawful t stop j e in
+    (schedule-consumes rule lawful t stop j e, omega (arith, all, few), omega (arith, all, most), schedule-fits rule lawful t stop j e)
 
 pub passes-exactly : (t : List ℕ) (stop : ℕ) (s : List ℕ) (c : Counts) → (checkAnswer t stop s ≡ given c)
-    ↔ ((j : Job) × (schedule : Schedule) × (jobUpTo t stop ≡ given j) × ValidSheet j s schedule × (countsOf schedule ≡ c))
+    ↔ ((j : Job) × (schedule : Schedule) × (jobUpTo t stop ≡ given j) × ValidSheet j s schedule × (countsOf j schedule ≡ c))
 passes-exactly t stop s c = (passes-valid t stop s c, λ w. valid-passes t stop s (w .0) (w .1) (w .2) (w .3) ∙ ap given (w .4))

@@ -23,13 +23,13 @@ pub record Passed (t : List ℕ) (stop : ℕ) (s : List ℕ) (c : Counts) : Type
   pub sound : Sound job
   pub schedule : Schedule
   pub read : SheetRead job (start job) (bits s) schedule
-  pub counts : countsOf schedule ≡ c
+  pub counts : countsOf job schedule ≡ c
 
 pub passed : (t : List ℕ) (stop : ℕ) (s : List ℕ) (c : Counts) → checkAnswer t stop s ≡ given c → Passed t stop s c
 unfolding checkAnswer checkFor passOf
 passed t stop s c e = go (jobUpTo t stop) refl e
   where
-    pass : (j : Job) → jobUpTo t stop ≡ given j → (a : Answer Schedule) → scheduleRead j s ≡ a → passOf a ≡ given c → Passed t stop s c
+    pass : (j : Job) → jobUpTo t stop ≡ given j → (a : Answer Schedule) → scheduleRead j s ≡ a → passOf j a ≡ given c → Passed t stop s c
     pass j q (given schedule) r p = record {
       job = j;
       ticket = q;

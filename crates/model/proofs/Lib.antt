@@ -14,12 +14,14 @@ pub mod Choosing
 pub mod Missing
 pub mod Rounds
 pub mod Plans
+pub mod Charged
 pub mod Effects
 pub mod Short
 pub mod Sparing
 pub mod Written
 pub mod Validity
 pub mod Bytes
+mod ChargedCalls
 mod Stricter
 pub mod TwoSheets
 pub mod Text

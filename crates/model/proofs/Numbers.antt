@@ -18,7 +18,7 @@ use Rattle.model.specs.Playing.{State, Schedule, start}
 use Rattle.model.specs.Rules.{short, sparing}
 use Rattle.model.specs.Plans.{each, scheduleOf}
 use Rattle.model.specs.Sheet.{discardReader, fetchReader, actionReader, roundReader, roundsReader, sheetReader, scheduleRead}
-use Rattle.model.specs.Calls.{jobUpTo, Planned, ticketNumbers, jobNumbers, sheetNumbers, roomNumbers, checkRefusals, planRefusals, pageRefusals, among, passOf, checkFor, checkAnswer, plannedOf, withRooms, plannedFor, planAnswer, pageAnswer}
+use Rattle.model.specs.Calls.{jobUpTo, Planned, ticketNumbers, jobNumbers, sheetNumbers, roomNumbers, checkRefusals, planRefusals, pageRefusals, among, numberOf, passOf, checkFor, checkAnswer, plannedOf, withRooms, plannedFor, planAnswer, pageAnswer}
 use Rattle.model.proofs.Stop.{stop-refusals}
 use Rattle.model.proofs.PageCall.{page-refusals}
 
@@ -188,7 +188,7 @@ pub check-parts : (t : List ℕ) (k : ℕ) (s : List ℕ) (n : ℕ) → checkAns
 unfolding checkAnswer checkFor passOf
 check-parts t k s n e = go (jobUpTo t k) refl e
   where
-    sheet : (j : Job) (a : Answer Schedule) → scheduleRead j s ≡ a → passOf a ≡ refused n → among n sheetNumbers ≡ true
+    sheet : (j : Job) (a : Answer Schedule) → scheduleRead j s ≡ a → passOf j a ≡ refused n → among n sheetNumbers ≡ true
     sheet j (given x) q h = refused-given (sym h)
     sheet j (refused m) q h = sheet-number j s n (q ∙ refused-same h)
 
@@ -218,7 +218,7 @@ unfolding planAnswer plannedFor
 plan-parts t k a b n e = go (jobUpTo t k) refl e
   where
     go : (x : Answer Job) → jobUpTo t k ≡ x → plannedFor a b x ≡ refused n → (jobUpTo t k ≡ refused n) ⊎ (among n roomNumbers ≡ true)
-    go (given j) q h = inr (rooms-number a b n (plannedOf (scheduleOf short j) (scheduleOf sparing j)) h)
+    go (given j) q h = inr (rooms-number a b n (plannedOf j (scheduleOf short j) (scheduleOf sparing j)) h)
     go (refused m) q h = inl (q ∙ refused-same h)
 
 pub plan-number : (t : List ℕ) (k a b n : ℕ) → planAnswer t k a b ≡ refused n → among n planRefusals ≡ true
@@ -247,3 +247,8 @@ plan-within t k a b n e = among-within 1 21 n planRefusals refl (plan-number t k
 pub page-within : (t : List ℕ) (k a b c n : ℕ) → pageAnswer t k a b c ≡ refused n → (1 ≤ n) × (n ≤ 21)
 unfolding withinAll each
 page-within t k a b c n e = among-within 1 21 n pageRefusals refl (page-number t k a b c n e)
+
+-- and a call is refused where its number is not 0
+pub refused-by : {A : Type 0} (a : Answer A) (number : ℕ) → number ≡ numberOf a → (number ≡ 0 → ⊥) → a ≡ refused number
+refused-by (given v) number e f = absurd (f e)
+refused-by (refused n) number e f = ap refused (sym e)

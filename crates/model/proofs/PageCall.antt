@@ -12,7 +12,6 @@ use Rattle.bits.specs.Reading.{Answer, given, refused}
 use Rattle.bits.proofs.Logic.{by-test}
 use Rattle.bits.proofs.Reading.{refused-given}
 use Rattle.model.specs.Job.{Sound, Job, diskCount}
-use Rattle.model.specs.Playing.{rounds}
 use Rattle.model.specs.Rules.{action, Rule, short, sparing}
 use Rattle.model.specs.Plans.{planOf, scheduleOf, stateAfter}
 use Rattle.model.specs.Page.{letter, lineOf, legend, ended, pageOf}
@@ -20,6 +19,7 @@ use Rattle.model.specs.Sheet.{sheetOf}
 use Rattle.model.specs.Calls.{jobUpTo, countsOf, shortCounts, sparingCounts, Mark, isShort, isSparing, chosen, Planned, handedCounts, plannedOf, withRooms, plannedFor, planAnswer, written, PlannedPage, planHanded, withPage, pageFor, pageAnswer, planGiven, pageLength, pageAfter}
 use Rattle.model.proofs.Choosing.{Lawful, short-lawful, sparing-lawful}
 use Rattle.model.proofs.Stop.{job-sound}
+use Rattle.model.proofs.Charged.{schedule-charged}
 use Rattle.model.proofs.Bytes.{schedule-fits, planned-counts}
 use Rattle.model.proofs.Page.{page-line, page-letter, page-then, page-long, page-most}
 
@@ -113,9 +113,9 @@ chosen-lawful isShort = short-lawful
 chosen-lawful isSparing = sparing-lawful
 
 handed-rounds : (m : Mark) (j : Job) → chosen m (shortCounts j) (sparingCounts j) .rounds ≡ length (planOf (chosen m short sparing) j)
-unfolding shortCounts sparingCounts countsOf rounds scheduleOf
-handed-rounds isShort j = length-map (planOf short j) (map action)
-handed-rounds isSparing j = length-map (planOf sparing j) (map action)
+unfolding shortCounts sparingCounts countsOf scheduleOf
+handed-rounds isShort j = schedule-charged short j ∙ length-map (planOf short j) (map action)
+handed-rounds isSparing j = schedule-charged sparing j ∙ length-map (planOf sparing j) (map action)
 
 module _ (t : List ℕ) (stop : ℕ) (j : Job) (room₁ room₂ room₃ : ℕ) (p : PlannedPage) (e : jobUpTo t stop ≡ given j) (h : pageAnswer t stop room₁ room₂ room₃ ≡ given p) where
   abbrev rule : Rule
@@ -154,7 +154,7 @@ module _ (t : List ℕ) (stop : ℕ) (j : Job) (room₁ room₂ room₃ : ℕ) (
 -- An accepted ticket is not refused where each buffer has room for the longest sheet, and the longest page.
 
 rooms-fit : (t : List ℕ) (stop : ℕ) (j : Job) (room₁ room₂ : ℕ) → jobUpTo t stop ≡ given j → 40962 ≤ room₁ → 40962 ≤ room₂
-    → planAnswer t stop room₁ room₂ ≡ given (plannedOf (scheduleOf short j) (scheduleOf sparing j))
+    → planAnswer t stop room₁ room₂ ≡ given (plannedOf j (scheduleOf short j) (scheduleOf sparing j))
 unfolding planAnswer plannedFor withRooms plannedOf
 rooms-fit t stop j room₁ room₂ e p q =
     let a = schedule-fits short short-lawful t stop j e in
@@ -166,7 +166,7 @@ pub page-fits : (t : List ℕ) (stop : ℕ) (j : Job) (room₁ room₂ room₃ :
     → (p : PlannedPage) × (pageAnswer t stop room₁ room₂ room₃ ≡ given p)
 unfolding planHanded
 page-fits t stop j room₁ room₂ room₃ e a b c =
-    let planned = plannedOf (scheduleOf short j) (scheduleOf sparing j) in
+    let planned = plannedOf j (scheduleOf short j) (scheduleOf sparing j) in
     let few = page-most (chosen (planned .mark) short sparing) (chosen-lawful (planned .mark)) j (job-sound t stop j e) in
     let p : PlannedPage = record { planned = planned; page = pageOf (planHanded (planned .mark) j) } in
     (p, page-exactly t stop room₁ room₂ room₃ p .1 (j, e, rooms-fit t stop j room₁ room₂ e a b, refl, omega (arith, few)))

@@ -1,10 +1,11 @@
 -- All that is promised of tickets, stops, sheets and pages, over bytes, in the terms of documents 01 and 02. Each promise is closed by one citation.
--- `ticketOf`, `jobUpTo`, `checkAnswer`, `planAnswer`, `chooseAnswer` and `pageAnswer` (specs/Ticket.antt, specs/Calls.antt) say what the papers' calls
--- give for any bytes: `given` a value, or `refused` with a number. `jobUpTo t stop` is the job of the ticket t up to a stop, and all that is said of
--- plans, sheets, choices and pages holds for every ticket and stop; fewest rounds and fetches "are then meant among sheets for the part before the
--- stop" (L5). The code is tied to these definitions by its contracts, which are equations with them for every input: `planner::check` returns
--- `checkAnswer`, `planner::plan` returns and writes `planAnswer`, `planner::part` gives `partOf`, `planner::choose` returns `chooseAnswer`,
--- `planner::chosen_sheet` gives `sheetHanded`, `planner::plan_with_page` returns and writes `pageAnswer` (crates/planner/src/lib.rt). Assumes nothing.
+-- `ticketOf`, `jobUpTo`, `checkAnswer`, `planAnswer`, `chooseAnswer` and `pageAnswer` (specs/Ticket.antt, specs/Calls.antt) say what the papers'
+-- calls give for any bytes: `given` a value, or `refused` with a number. `jobUpTo t stop` is the job of the ticket t up to a stop, and all that is
+-- said of plans, sheets, choices and pages holds for every ticket and stop; fewest rounds and fetches "are then meant among sheets for the part
+-- before the stop" (L5). The code is tied to these definitions by its contracts, which are equations with them for every input: `planner::check`
+-- returns `checkAnswer`, `planner::plan` returns and writes `planAnswer`, `planner::part` gives `partOf`, `planner::choose` returns `chooseAnswer`,
+-- `planner::chosen_sheet` gives `sheetHanded`, `planner::plan_with_page` returns and writes `pageAnswer` (crates/planner/src/lib.rt). Assumes
+-- nothing.
 use mathlib.Core.Path.{_≡_}
 use mathlib.Core.Logic.{_↔_, _⊎_}
 use mathlib.Core.Bool.{true, cond}
@@ -17,13 +18,13 @@ use Rattle.bits.specs.Bits.{pack}
 use Rattle.bits.specs.Reading.{given, refused}
 use Rattle.model.specs.Job.{Job, Sound, diskCount, blockCount, refCount, slotsOf, diskOf, refAt, upTo}
 use Rattle.model.specs.Ticket.{ticketBits, ticketOf}
-use Rattle.model.specs.Playing.{replace, Schedule, start, play, rounds}
+use Rattle.model.specs.Playing.{idle, replace, Schedule, start, play, fetches}
 use Rattle.model.specs.Rules.{distance, overMinBlock, short, sparing}
 use Rattle.model.specs.Plans.{scheduleOf, stateAfter}
 use Rattle.model.specs.Text.{text}
 use Rattle.model.specs.Page.{letter, lineOf, legend, ended, pageOf}
 use Rattle.model.specs.Sheet.{sheetOf}
-use Rattle.model.specs.Valid.{ValidTicket, discardsFullFrom, LegalSheet, ValidSheet}
+use Rattle.model.specs.Valid.{ValidTicket, ValidFrom, discardsFullFrom, LegalSheet, ValidSheet}
 use Rattle.model.specs.Calls.{jobUpTo, referencesOf, Counts, countsOf, fetchesOn, AllZero, shortCounts, sparingCounts, isSecond, ofTwo, isSparing, chosen, Planned, handed, handedCounts, plannedFor, planAnswer, shortAfter, sparingAfter, returned, partAfter, PlannedPage, planHanded, pageFor, pageAnswer, planGiven, pageLength, pageAfter, checkFor, checkAnswer, countsGiven, ChosenSheet, chosenOf, chosenFrom, chooseAnswer, returnedChoice, sheetAfter, checkRefusals, planRefusals, pageRefusals, among, countsNumbers, planningNumbers, choiceNumbers, countsWritten}
 use Rattle.model.proofs.Choosing.{short-lawful, sparing-lawful}
 use Rattle.model.proofs.Ticket
@@ -34,6 +35,7 @@ use Rattle.model.proofs.TwoSheets
 use Rattle.model.proofs.Page
 use Rattle.model.proofs.PageCall
 use Rattle.model.proofs.StopCalls
+use Rattle.model.proofs.ChargedCalls
 use Rattle.model.proofs.Refusals
 use Rattle.model.proofs.Longest
 
@@ -69,14 +71,14 @@ plan-refused = Refusals.plan-refused
 -- 2. Demand 2. The check passes a sheet exactly if it is a valid schedule of the ticket's job up to the stop (specs/Valid.antt), and with that
 -- schedule's counts.
 pub passes-exactly : (t : List ℕ) (stop : ℕ) (s : List ℕ) (c : Counts) → (checkAnswer t stop s ≡ given c)
-    ↔ ((j : Job) × (schedule : Schedule) × (jobUpTo t stop ≡ given j) × ValidSheet j s schedule × (countsOf schedule ≡ c))
+    ↔ ((j : Job) × (schedule : Schedule) × (jobUpTo t stop ≡ given j) × ValidSheet j s schedule × (countsOf j schedule ≡ c))
 passes-exactly = Bytes.passes-exactly
 
 -- Each plan of an accepted ticket and stop, written as a sheet and read by the check, passes with the planner's own rounds and fetches.
-pub short-passes : (t : List ℕ) (stop : ℕ) (j : Job) → jobUpTo t stop ≡ given j → checkAnswer t stop (sheetOf (scheduleOf short j)) ≡ given (countsOf (scheduleOf short j))
+pub short-passes : (t : List ℕ) (stop : ℕ) (j : Job) → jobUpTo t stop ≡ given j → checkAnswer t stop (sheetOf (scheduleOf short j)) ≡ given (countsOf j (scheduleOf short j))
 short-passes = Bytes.schedule-passes short short-lawful
 
-pub sparing-passes : (t : List ℕ) (stop : ℕ) (j : Job) → jobUpTo t stop ≡ given j → checkAnswer t stop (sheetOf (scheduleOf sparing j)) ≡ given (countsOf (scheduleOf sparing j))
+pub sparing-passes : (t : List ℕ) (stop : ℕ) (j : Job) → jobUpTo t stop ≡ given j → checkAnswer t stop (sheetOf (scheduleOf sparing j)) ≡ given (countsOf j (scheduleOf sparing j))
 sparing-passes = Bytes.schedule-passes sparing sparing-lawful
 
 -- "A planning call that is not refused gives these same numbers for the plans", and writes their sheets.
@@ -87,17 +89,19 @@ planned-counts = Bytes.planned-counts
 -- "In either plan every round consumes at least one reference, so neither takes more than N rounds": so at most 2,048, and either sheet fits
 -- the longest sheet's room.
 pub short-rounds : (t : List ℕ) (stop : ℕ) (j : Job) → jobUpTo t stop ≡ given j
-    → ((k : ℕ) → k < rounds (scheduleOf short j) → play j (start j) (take k (scheduleOf short j)) .next < play j (start j) (take (suc k) (scheduleOf short j)) .next)
-    × (rounds (scheduleOf short j) ≤ refCount j) × (rounds (scheduleOf short j) ≤ 2048) × (length (sheetOf (scheduleOf short j)) ≤ 40962)
+    → ((k : ℕ) → k < length (scheduleOf short j) → play j (start j) (take k (scheduleOf short j)) .next < play j (start j) (take (suc k) (scheduleOf short j)) .next)
+    × (shortCounts j .rounds ≤ refCount j) × (shortCounts j .rounds ≤ 2048) × (length (sheetOf (scheduleOf short j)) ≤ 40962)
+unfolding shortCounts countsOf
 short-rounds = Bytes.rounds-few short short-lawful
 
 pub sparing-rounds : (t : List ℕ) (stop : ℕ) (j : Job) → jobUpTo t stop ≡ given j
-    → ((k : ℕ) → k < rounds (scheduleOf sparing j) → play j (start j) (take k (scheduleOf sparing j)) .next < play j (start j) (take (suc k) (scheduleOf sparing j)) .next)
-    × (rounds (scheduleOf sparing j) ≤ refCount j) × (rounds (scheduleOf sparing j) ≤ 2048) × (length (sheetOf (scheduleOf sparing j)) ≤ 40962)
+    → ((k : ℕ) → k < length (scheduleOf sparing j) → play j (start j) (take k (scheduleOf sparing j)) .next < play j (start j) (take (suc k) (scheduleOf sparing j)) .next)
+    × (sparingCounts j .rounds ≤ refCount j) × (sparingCounts j .rounds ≤ 2048) × (length (sheetOf (scheduleOf sparing j)) ≤ 40962)
+unfolding sparingCounts countsOf
 sparing-rounds = Bytes.rounds-few sparing sparing-lawful
 
--- 3. Demand 3. Whatever bytes t read as an accepted ticket, whatever the stop, and whatever bytes s the check passes as its sheet, whoever drew it up:
--- the rounds given with the pass are at least the short plan's, and the fetches on every disk at least the sparing plan's.
+-- 3. Demand 3. Whatever bytes t read as an accepted ticket, whatever the stop, and whatever bytes s the check passes as its sheet, whoever drew it
+-- up: the rounds given with the pass are at least the short plan's, and the fetches on every disk at least the sparing plan's.
 pub unbeaten : (t : List ℕ) (stop : ℕ) (s : List ℕ) (j : Job) (c : Counts) → jobUpTo t stop ≡ given j → checkAnswer t stop s ≡ given c
     → (shortCounts j .rounds ≤ c .rounds) × ((d : ℕ) → fetchesOn (sparingCounts j) d ≤ fetchesOn c d)
 unbeaten = Bytes.unbeaten
@@ -183,8 +187,8 @@ choose-given = TwoSheets.choose-given
 pub sheet-handed : (t : List ℕ) (stop : ℕ) (first second : List ℕ) (c : ChosenSheet) → chooseAnswer t stop first second ≡ given c → sheetAfter (given c) first second ≡ ofTwo (c .which) first second
 sheet-handed = TwoSheets.sheet-handed
 
--- Between planning's own two sheets, the short one first, the choice is not refused. It is the second exactly if planning's mark is sparing, and hands
--- back what planning does.
+-- Between planning's own two sheets, the short one first, the choice is not refused. It is the second exactly if planning's mark is sparing, and
+-- hands back what planning does.
 pub chosen-as-planned : (t : List ℕ) (stop room₁ room₂ : ℕ) (p : Planned) → planAnswer t stop room₁ room₂ ≡ given p
     → (c : ChosenSheet) × (chooseAnswer t stop (p .shortSheet) (p .sparingSheet) ≡ given c)
     × ((c .which ≡ isSecond) ↔ (p .mark ≡ isSparing))
@@ -223,8 +227,8 @@ page-numbers = Refusals.page-numbers
 pub page-refused : (n : ℕ) (lent : List ℕ) → (planGiven (refused n) ≡ refused n) × (pageLength (refused n) ≡ 0) × (pageAfter (refused n) lent ≡ lent)
 page-refused = Refusals.page-refused
 
--- "The page's length is returned too, and bytes past it stay": a call that is not refused returns and writes what planning does (`plan-given`), and the
--- page's length; the page's buffer then begins with the page, and goes on with the bytes that it had.
+-- "The page's length is returned too, and bytes past it stay": a call that is not refused returns and writes what planning does (`plan-given`), and
+-- the page's length; the page's buffer then begins with the page, and goes on with the bytes that it had.
 pub page-given : (t : List ℕ) (stop : ℕ) (lent : List ℕ) (room₁ room₂ : ℕ) (p : PlannedPage) → pageAnswer t stop room₁ room₂ (length lent) ≡ given p
     → (planGiven (given p) ≡ given (p .planned))
     × (pageLength (given p) ≡ length (p .page))
@@ -267,25 +271,25 @@ pub page-fits : (t : List ℕ) (stop : ℕ) (j : Job) (room₁ room₂ room₃ :
 page-fits = PageCall.page-fits
 
 -- 7. Request L3, "No throwing out beside an empty slot. .. The check becomes stricter." "Fewer sheets pass": every sheet that passes is a sheet that
--- document 01 lets pass, with the same counts. Such a sheet is a `LegalSheet` (specs/Valid.antt): word for word the sheets of which `passes-exactly`
--- was proved before this request.
+-- document 01 lets pass, with the counts of its schedule. Such a sheet is a `LegalSheet` (specs/Valid.antt): word for word the sheets of which
+-- `passes-exactly` was proved before this request.
 pub pass-is-legal : (t : List ℕ) (stop : ℕ) (s : List ℕ) (c : Counts) → checkAnswer t stop s ≡ given c
-    → (j : Job) × (schedule : Schedule) × (jobUpTo t stop ≡ given j) × LegalSheet j s schedule × (countsOf schedule ≡ c)
+    → (j : Job) × (schedule : Schedule) × (jobUpTo t stop ≡ given j) × LegalSheet j s schedule × (countsOf j schedule ≡ c)
 pass-is-legal = Stricter.pass-is-legal
 
 -- Of those sheets the check passes the ones that throw nothing out beside an empty slot, and refuses all others with 20;
 pub legal-answer : (t : List ℕ) (stop : ℕ) (s : List ℕ) (j : Job) (schedule : Schedule) → jobUpTo t stop ≡ given j → LegalSheet j s schedule
-    → checkAnswer t stop s ≡ cond (discardsFullFrom j (start j) schedule) (given (countsOf schedule)) (refused 20)
+    → checkAnswer t stop s ≡ cond (discardsFullFrom j (start j) schedule) (given (countsOf j schedule)) (refused 20)
 legal-answer = Bytes.legal-answer
 
 -- and there are others: the check refuses some sheet that document 01 lets pass.
 pub legal-refused : (t : List ℕ) × (stop : ℕ) × (s : List ℕ) × (j : Job) × (schedule : Schedule) × (jobUpTo t stop ≡ given j) × LegalSheet j s schedule × (checkAnswer t stop s ≡ refused 20)
 legal-refused = Stricter.legal-refused
 
--- "and planned sheets still do" (`short-passes`, `sparing-passes`), "so nobody gains a round by the change": no sheet that document 01 lets pass beats
--- the plans either.
+-- "and planned sheets still do" (`short-passes`, `sparing-passes`), "so nobody gains a round by the change": no sheet that document 01 lets pass
+-- beats the plans either.
 pub legal-unbeaten : (t : List ℕ) (stop : ℕ) (s : List ℕ) (j : Job) (schedule : Schedule) → jobUpTo t stop ≡ given j → LegalSheet j s schedule
-    → (shortCounts j .rounds ≤ countsOf schedule .rounds) × ((d : ℕ) → fetchesOn (sparingCounts j) d ≤ fetchesOn (countsOf schedule) d)
+    → (shortCounts j .rounds ≤ countsOf j schedule .rounds) × ((d : ℕ) → fetchesOn (sparingCounts j) d ≤ fetchesOn (countsOf j schedule) d)
 legal-unbeaten = Bytes.legal-unbeaten
 
 -- 8. Request L5, a stop. A ticket and a stop say a job exactly if the ticket is accepted and the stop is not above N: the job up to the stop,
@@ -335,7 +339,7 @@ pub stop-distance : (stop : ℕ) (j : Job) → stop ≤ refCount j → (p b : �
     → (let d = distance (j .refs) p b in distance (upTo stop j .refs) p b ≡ cond (ltb d stop) d (refCount (upTo stop j)))
 stop-distance = Stop.stop-distance
 
--- "A stop equal to N is the old call": each of the four is what it was before there were stops, word for word. (`referencesOf` is N of an accepted
+-- "A stop equal to N is the old call": each of the four is that of the ticket's own job, as without a stop. (`referencesOf` is N of an accepted
 -- ticket; one that is refused has its number with every stop, by `stop-first`.)
 pub whole-plan : (t : List ℕ) (room₁ room₂ : ℕ) → planAnswer t (referencesOf (ticketOf t)) room₁ room₂ ≡ plannedFor room₁ room₂ (ticketOf t)
 whole-plan = StopCalls.whole-plan
@@ -349,3 +353,26 @@ whole-check = StopCalls.whole-check
 pub whole-choice : (t first second : List ℕ)
     → chooseAnswer t (referencesOf (ticketOf t)) first second ≡ chosenFrom first second (checkFor first (ticketOf t)) (checkFor second (ticketOf t))
 whole-choice = StopCalls.whole-choice
+
+-- 9. Request L7, "Idle rounds at the end are not charged." The rounds given with a pass are "the round in which the last reference is consumed .., 0
+-- where nothing had to be fetched": after k of the sheet's rounds all references are consumed exactly if k is not below them; so they are 0 exactly
+-- if none is left at the start. `unbeaten`, `handed-back` and all that is said of a choice hold of these rounds; a sheet may have more written.
+-- "Fetches are still counted to the end": those given with a pass are of all rounds.
+pub charged-given : (t : List ℕ) (stop : ℕ) (s : List ℕ) (j : Job) (schedule : Schedule) (c : Counts) → jobUpTo t stop ≡ given j → ValidSheet j s schedule → checkAnswer t stop s ≡ given c
+    → (c .rounds ≤ length schedule) × ((k : ℕ) → (play j (start j) (take k schedule) .next ≡ refCount j) ↔ (c .rounds ≤ k)) × ((d : ℕ) → d < 8 → fetchesOn c d ≡ fetches schedule d)
+charged-given = ChargedCalls.charged-given
+
+-- For either plan they are the rounds that it starts, which its sheet has.
+pub plans-charged : (j : Job) → (shortCounts j .rounds ≡ length (scheduleOf short j)) × (sparingCounts j .rounds ≡ length (scheduleOf sparing j))
+plans-charged = ChargedCalls.plans-charged
+
+-- n idle rounds more, up to 2,048 in all, change nothing in what the check gives for a sheet that passes.
+pub idle-end : (t : List ℕ) (stop : ℕ) (s : List ℕ) (j : Job) (schedule : Schedule) (n : ℕ) → jobUpTo t stop ≡ given j → ValidSheet j s schedule → length schedule + n ≤ 2048
+    → checkAnswer t stop (sheetOf (schedule ++ replicate n (replicate (diskCount j) idle))) ≡ checkAnswer t stop s
+idle-end = ChargedCalls.idle-end
+
+-- Whatever follows a schedule that has consumed all references is not charged, and its fetches are added, "as the arm moves for them".
+pub counts-after : (j : Job) (schedule more : Schedule) → ValidFrom j (start j) schedule
+    → (countsOf j (schedule ++ more) .rounds ≡ countsOf j schedule .rounds)
+    × ((d : ℕ) → fetchesOn (countsOf j (schedule ++ more)) d ≡ fetchesOn (countsOf j schedule) d + fetchesOn (countsOf j more) d)
+counts-after = ChargedCalls.counts-after

@@ -1,5 +1,5 @@
--- What a round of any schedule does that can be played, as the two theorems need it: a block of a disk sees only that disk's action, at most one block
--- enters, and the reading leaves every missing block ahead. Assumes nothing.
+-- What a round of any schedule does that can be played, as the two theorems need it: a block of a disk sees only that disk's action, at most one
+-- block enters, and the reading leaves every missing block ahead. Assumes nothing.
 use mathlib.Core.Path.{_≡_, refl, sym, ap, _∙_}
 use mathlib.Core.Bool.{Bool, true, false}
 use mathlib.Core.List.{List, [], _∷_}

@@ -172,7 +172,7 @@ pub record RoundsRead (j : Job) (r : ℕ) (s : State) (l : List ℕ) (schedule :
   pub allowed : Allowed j s schedule
   pub full : discardsFullFrom j s schedule ≡ true
 
-pub rounds-read : (j : Job) (r : ℕ) (s : State) (l : List ℕ) (schedule : Schedule) (rest : List ℕ) → Bits l
+rounds-read : (j : Job) (r : ℕ) (s : State) (l : List ℕ) (schedule : Schedule) (rest : List ℕ) → Bits l
     → roundsReader j r s l ≡ got schedule rest → RoundsRead j r s l schedule rest
 unfolding roundsReader roundsBits Allowed discardsFullFrom
 rounds-read j zero s l schedule rest bits e =

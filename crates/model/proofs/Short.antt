@@ -7,13 +7,14 @@ use Prim.Native.Nat.{ℕ, zero, suc, _+_, _≤_, _<_}
 use native.Mathlib.Omega.{arith}
 use lib.Dec.{ltb, leb}
 use lib.ListN.{length, getD}
-use borrow.Author.Tests.{ltb-true, leb-true, leb-false}
+use borrow.Author.Tests.{ltb-true, lt-ltb, leb-true, leb-false}
 use Rattle.bits.proofs.Logic.{by-test, clash}
 use Rattle.model.specs.Job.{Sound, Job, diskCount, refCount, slotsOf, diskOf, refAt}
-use Rattle.model.specs.Playing.{Action, idle, fetch, replace, Schedule, State, act, playRound, fetched}
+use Rattle.model.specs.Playing.{Action, idle, fetch, replace, Schedule, State, act, playRound, chargedFrom, fetched}
 use Rattle.model.specs.Rules.{distanceNow, Choice, action, short}
 use Rattle.model.specs.Plans.{planFrom}
 use Rattle.model.specs.Valid.{Round, ValidFrom}
+use Rattle.model.proofs.Playing.{round-plays}
 use Rattle.model.proofs.Distances.{distance-before}
 use Rattle.model.proofs.Choosing.{nothing, into, sooner, waiting, over, ShortView, short-view, short-lawful}
 use Rattle.model.proofs.Missing.{want, miss, miss-zero, miss-none, pigeonhole, pigeonhole-full, want-mono}
@@ -121,10 +122,11 @@ module _ (j : Job) (sound : Sound j) (s t : State) (ready : Ready j s) (ahead : 
         omega (arith, x, y, m));
   }
 
--- Every schedule that can be played from a state that the plan's is ahead of takes at least the plan's rounds, however many rounds the plan may start.
+-- Every schedule that can be played from a state that the plan's is ahead of is charged at least the plan's rounds, however many rounds the plan may
+-- start and whatever the schedule does after its last reference.
 pub short-unbeaten : (j : Job) → Sound j → (most : ℕ) (s t : State) (schedule : Schedule) → Ready j s → Ahead j s t → ValidFrom j t schedule
-    → length (planFrom short j most s) ≤ length schedule
-unfolding planFrom ValidFrom actionsOf
+    → length (planFrom short j most s) ≤ chargedFrom j t schedule
+unfolding planFrom ValidFrom chargedFrom actionsOf
 short-unbeaten j sound zero s t schedule ready ahead v = omega arith
 short-unbeaten j sound (suc most) s t [] ready ahead v =
     let a = ahead .read in
@@ -135,6 +137,10 @@ short-unbeaten j sound (suc most) s t (actions ∷ more) ready ahead v =
     let s′ = playRound j s (actionsOf short j s) in
     let ih = short-unbeaten j sound most s′ (v .0) more (ready-after j s (actionsOf short j s) s′ ready (plan-round short short-lawful j sound s ready))
     (ahead-round j sound s t ready ahead actions (v .0) (v .1)) (v .2) in
+    let same = ap (λ (x : State). chargedFrom j x more) (round-plays j t actions (v .0) (v .1)) in
+    let a = ahead .read in
     by-test (ltb (s .next) (refCount j))
-    (λ e. rw (e, planFrom) (omega (arith, ih)))
+    (λ e. let l = ltb-true (s .next) (refCount j) e in
+    let due = lt-ltb (t .next) (refCount j) (omega (arith, l, a)) in
+    rw (e, planFrom, due, chargedFrom) (omega (arith, ih, same)))
     (λ e. rw (e, planFrom) (omega arith))

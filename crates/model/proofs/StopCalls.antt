@@ -20,7 +20,7 @@ use Rattle.model.proofs.Numbers.{ticket-number, check-parts, plan-parts
 use Rattle.model.proofs.PageCall.{page-refusals}
 use Rattle.model.proofs.TwoSheets.{first-refused, choose-fails}
 
--- "A stop equal to N is the old call": each call as it was before there were stops.
+-- "A stop equal to N is the old call": each call is that of the ticket's own job, as without a stop.
 
 module _ (t : List ℕ) where
   abbrev whole : ℕ

@@ -21,7 +21,7 @@ use Rattle.model.proofs.Bytes.{passes-valid, legal-answer, legal-sheet}
 
 -- What passes is one of document 01's sheets, with the same counts.
 pub pass-is-legal : (t : List ℕ) (stop : ℕ) (s : List ℕ) (c : Counts) → checkAnswer t stop s ≡ given c
-    → (j : Job) × (schedule : Schedule) × (jobUpTo t stop ≡ given j) × LegalSheet j s schedule × (countsOf schedule ≡ c)
+    → (j : Job) × (schedule : Schedule) × (jobUpTo t stop ≡ given j) × LegalSheet j s schedule × (countsOf j schedule ≡ c)
 pass-is-legal t stop s c e = let v = passes-valid t stop s c e in (v .0, v .1, v .2, v .3 .legal, v .4)
 
 -- One that does not pass: with two slots, block 1 replaces block 0 beside the empty slot. It is a row of the table in `Answers`.
@@ -65,5 +65,5 @@ legal-refused =
       replacing,
       accepted,
       sheet,
-      legal-answer ticketTwo 2 s jobTwo replacing accepted sheet ∙ ap (λ (full : Bool). cond full (given (countsOf replacing)) (refused 20)) beside-empty,
+      legal-answer ticketTwo 2 s jobTwo replacing accepted sheet ∙ ap (λ (full : Bool). cond full (given (countsOf jobTwo replacing)) (refused 20)) beside-empty,
     )

@@ -14,7 +14,7 @@ use Rattle.bits.specs.Reading.{Answer, given, refused}
 use Rattle.bits.proofs.Logic.{by-test}
 use Rattle.bits.proofs.Reading.{refused-given}
 use Rattle.model.specs.Job.{Job}
-use Rattle.model.specs.Playing.{rounds}
+use Rattle.model.specs.Playing.{charged}
 use Rattle.model.specs.Rules.{short, sparing}
 use Rattle.model.specs.Plans.{scheduleOf}
 use Rattle.model.specs.Sheet.{sheetOf}
@@ -151,11 +151,11 @@ chosen-as-planned t stop room₁ room₂ p e =
     let j = g .0 in
     let a = scheduleOf short j in
     let b = scheduleOf sparing j in
-    let w = whichFor (rounds a) (rounds b) in
-    let chose = both-pass t stop (sheetOf a) (sheetOf b) (countsOf a) (countsOf b) (Bytes.schedule-passes short short-lawful t stop j (g .1)) (Bytes.schedule-passes sparing sparing-lawful t stop j (g .1)) in
-    let mark = Bytes.mark-second (rounds a) (rounds b) in
+    let w = whichFor (charged j a) (charged j b) in
+    let chose = both-pass t stop (sheetOf a) (sheetOf b) (countsOf j a) (countsOf j b) (Bytes.schedule-passes short short-lawful t stop j (g .1)) (Bytes.schedule-passes sparing sparing-lawful t stop j (g .1)) in
+    let mark = Bytes.mark-second (charged j a) (charged j b) in
     subst (AsPlanned t stop) (g .2) (
-      chosenOf (sheetOf a) (sheetOf b) (countsOf a) (countsOf b),
+      chosenOf (sheetOf a) (sheetOf b) (countsOf j a) (countsOf j b),
       chose,
       (mark .1, mark .0),
       length-two w (sheetOf a) (sheetOf b) ∙ sym (Bytes.chosen-two w (length (sheetOf a)) (length (sheetOf b))),

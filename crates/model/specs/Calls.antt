@@ -1,7 +1,7 @@
 -- What planning, checking and choosing give: document 01, "The two plans", its last three paragraphs, and "Numbers of a refused call"; of document 02
--- the requests L1, "Choosing between sheets we already hold", L2, "A wall page of the run", and L5, "Plan up to a stop". `planAnswer`, `pageAnswer`,
--- `checkAnswer` and `chooseAnswer` are the calls; `crates/planner/src/lib.rt` has the functions whose contracts are equations with them. Assumes
--- nothing.
+-- the requests L1, "Choosing between sheets we already hold", L2, "A wall page of the run", L5, "Plan up to a stop", and L7, "Idle rounds at the end
+-- are not charged". `planAnswer`, `pageAnswer`, `checkAnswer` and `chooseAnswer` are the calls; `crates/planner/src/lib.rt` has the functions whose
+-- contracts are equations with them. Assumes nothing.
 use mathlib.Core.Path.{_≡_}
 use mathlib.Core.Bool.{Bool, false, cond, _||_}
 use mathlib.Core.List.{List, [], _∷_, _++_}
@@ -13,14 +13,15 @@ use Rattle.bits.specs.Bits.{be16, over, laid}
 use Rattle.bits.specs.Reading.{Answer, given, refused}
 use Rattle.model.specs.Job.{Job, refCount, upTo}
 use Rattle.model.specs.Ticket.{ticketOf}
-use Rattle.model.specs.Playing.{Schedule, rounds, fetches}
+use Rattle.model.specs.Playing.{Schedule, charged, fetches}
 use Rattle.model.specs.Rules.{Choice, short, sparing}
 use Rattle.model.specs.Plans.{each, planOf, scheduleOf}
 use Rattle.model.specs.Page.{pageOf}
 use Rattle.model.specs.Sheet.{sheetOf, scheduleRead}
 
--- What a call is for: the job of a ticket up to a stop, or the number with which one of the two is refused. L5: "Turned away: 21, the stop is above N,
--- tested after 8", and so before anything of a sheet or a room. What each call gives is what document 01 and the requests before L5 say, of that job.
+-- What a call is for: the job of a ticket up to a stop, or the number with which one of the two is refused. L5: "Turned away: 21, the stop is above
+-- N, tested after 8", and so before anything of a sheet or a room. What each call gives is what document 01 and the requests before L5 say, of that
+-- job.
 unfoldable pub stopAt : ℕ → Answer Job → Answer Job
 unfolding upTo
 stopAt stop (given j) = cond (ltb (refCount j) stop) (refused 21) (given (upTo stop j))
@@ -40,9 +41,10 @@ pub record Counts : Type 0 where
   pub rounds : ℕ
   pub fetches : List ℕ
 
-unfoldable pub countsOf : Schedule → Counts
-unfolding rounds fetches each
-countsOf schedule = record { rounds = rounds schedule; fetches = each (fetches schedule) 0 8 }
+-- of a schedule for a job. L7: "A sheet's rounds are from now on that number", of the charged rounds, and "Fetches are still counted to the end".
+unfoldable pub countsOf : Job → Schedule → Counts
+unfolding charged fetches each
+countsOf j schedule = record { rounds = charged j schedule; fetches = each (fetches schedule) 0 8 }
 
 -- "all counts 0"
 abbrev pub noCounts : Counts
@@ -59,11 +61,11 @@ AllZero c = (c .rounds ≡ 0) × ((d : ℕ) → fetchesOn c d ≡ 0)
 -- "for both plans the rounds and the fetches per disk": they depend on the job alone
 unfoldable pub shortCounts : Job → Counts
 unfolding countsOf scheduleOf short
-shortCounts j = countsOf (scheduleOf short j)
+shortCounts j = countsOf j (scheduleOf short j)
 
 unfoldable pub sparingCounts : Job → Counts
 unfolding countsOf scheduleOf sparing
-sparingCounts j = countsOf (scheduleOf sparing j)
+sparingCounts j = countsOf j (scheduleOf sparing j)
 
 -- which of two sheets
 pub data Which : Type 0 where
@@ -76,7 +78,7 @@ ofTwo isFirst ofFirst ofSecond = ofFirst
 ofTwo isSecond ofFirst ofSecond = ofSecond
 
 -- L1: "The second is handed back if it takes no more rounds than the first, otherwise the first." The choice between two sheets, by their rounds;
--- planning and `chooseAnswer` both make it.
+-- planning and `chooseAnswer` both make it. L7: "The choice of L1 and the claim of fewest rounds use the charged number."
 unfoldable pub whichFor : ℕ → ℕ → Which
 whichFor firstRounds secondRounds = cond (leb secondRounds firstRounds) isSecond isFirst
 
@@ -108,13 +110,13 @@ pub record Planned : Type 0 where
   pub sparingSheet : List ℕ
 
 -- It is made from the schedules of P-MIN and P-CON, the short and the sparing plan.
-unfoldable pub plannedOf : Schedule → Schedule → Planned
+unfoldable pub plannedOf : Job → Schedule → Schedule → Planned
 unfolding markFor countsOf sheetOf
-plannedOf pmin pcon = record {
-  mark = markFor (rounds pmin) (rounds pcon);
-  partLength = chosen (markFor (rounds pmin) (rounds pcon)) (length (sheetOf pmin)) (length (sheetOf pcon));
-  short = countsOf pmin;
-  sparing = countsOf pcon;
+plannedOf j pmin pcon = record {
+  mark = markFor (charged j pmin) (charged j pcon);
+  partLength = chosen (markFor (charged j pmin) (charged j pcon)) (length (sheetOf pmin)) (length (sheetOf pcon));
+  short = countsOf j pmin;
+  sparing = countsOf j pcon;
   shortSheet = sheetOf pmin;
   sparingSheet = sheetOf pcon;
 }
@@ -133,7 +135,7 @@ withRooms room₁ room₂ p = cond (ltb room₁ (length (p .shortSheet))) (refus
 
 unfoldable pub plannedFor : ℕ → ℕ → Answer Job → Answer Planned
 unfolding withRooms plannedOf scheduleOf short sparing
-plannedFor room₁ room₂ (given j) = withRooms room₁ room₂ (plannedOf (scheduleOf short j) (scheduleOf sparing j))
+plannedFor room₁ room₂ (given j) = withRooms room₁ room₂ (plannedOf j (scheduleOf short j) (scheduleOf sparing j))
 plannedFor room₁ room₂ (refused n) = refused n
 
 -- A planning call: a ticket, a stop, and the lengths of the two lent buffers.
@@ -221,14 +223,14 @@ abbrev pub pageAfter : Answer PlannedPage → List ℕ → List ℕ
 pageAfter a lent = written (λ p. p .page) a lent
 
 -- "A pass by the check gives the sheet's rounds and fetches per disk."
-unfoldable pub passOf : Answer Schedule → Answer Counts
+unfoldable pub passOf : Job → Answer Schedule → Answer Counts
 unfolding countsOf
-passOf (given schedule) = given (countsOf schedule)
-passOf (refused n) = refused n
+passOf j (given schedule) = given (countsOf j schedule)
+passOf j (refused n) = refused n
 
 unfoldable pub checkFor : List ℕ → Answer Job → Answer Counts
 unfolding passOf scheduleRead
-checkFor sheet (given j) = passOf (scheduleRead j sheet)
+checkFor sheet (given j) = passOf j (scheduleRead j sheet)
 checkFor sheet (refused n) = refused n
 
 -- A call of the check: a ticket, a stop and a sheet. "The ticket is read first, field by field, then the sheet likewise."

@@ -7,8 +7,8 @@ use Prim.Native.Nat.{ℕ, suc}
 use Rattle.model.specs.Rules.{Choice, intoEmpty, overMinBlock, minBlockSooner, waits, noneMissing}
 use Rattle.model.specs.Text.{text, decimal, rightIn, filledTo}
 
--- "the letter of the rule that gave the action. Letters: E into an empty slot, M in place of the min-block, S idle because the min-block is due sooner
--- than U, W idle because the sparing plan waits though S does not hold, N no U."
+-- "the letter of the rule that gave the action. Letters: E into an empty slot, M in place of the min-block, S idle because the min-block is due
+-- sooner than U, W idle because the sparing plan waits though S does not hold, N no U."
 abbrev pub letter : Choice → ℕ
 letter (intoEmpty u) = code "E"
 letter (overMinBlock u v) = code "M"

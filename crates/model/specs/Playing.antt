@@ -3,9 +3,9 @@
 use mathlib.Core.Bool.{Bool, true, false, cond, _&&_}
 use mathlib.Core.List.{List, [], _∷_}
 use Prim.Native.Nat.{ℕ, zero, suc, _+_}
-use lib.Dec.{eqb}
-use lib.ListN.{length, getD, set, drop, replicate}
-use Rattle.model.specs.Job.{Job, blockCount, diskOf}
+use lib.Dec.{ltb, eqb}
+use lib.ListN.{getD, set, drop, replicate}
+use Rattle.model.specs.Job.{Job, blockCount, refCount, diskOf}
 
 -- How many of the numbers below n pass a test.
 unfoldable pub count : (ℕ → Bool) → ℕ → ℕ
@@ -85,9 +85,17 @@ discarded idle = 0
 discarded (fetch x) = 0
 discarded (replace x z) = 1
 
--- "The rounds of a sheet are its R"
-unfoldable pub rounds : Schedule → ℕ
-rounds schedule = length schedule
+-- L7: "the room now charges up to the round in which the last reference is consumed". From the state s on, each round that starts while references
+-- remain is charged, and no other,
+unfoldable pub chargedFrom : Job → State → Schedule → ℕ
+unfolding playRound
+chargedFrom j s [] = 0
+chargedFrom j s (actions ∷ more) = let rest = chargedFrom j (playRound j s actions) more in cond (ltb (s .next) (refCount j)) (suc rest) 0
+
+-- and from the start: "A sheet's rounds are from now on that number, 0 where nothing had to be fetched."
+unfoldable pub charged : Job → Schedule → ℕ
+unfolding chargedFrom start
+charged j schedule = chargedFrom j (start j) schedule
 
 -- A number that each action of disk d has, summed over all rounds.
 unfoldable pub total : (Action → ℕ) → ℕ → Schedule → ℕ

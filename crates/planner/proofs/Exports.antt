@@ -9,12 +9,13 @@ use mir.Syntax.{w32}
 use Rattle.bits.specs.Bits.{be16}
 use Rattle.bits.specs.Fields.{laidAt}
 use Rattle.bits.specs.Reading.{Answer, given, refused}
+use Rattle.model.specs.Job.{Job}
 use Rattle.model.specs.Playing.{Schedule}
 use Rattle.model.specs.Plans.{each}
 use Rattle.model.specs.Calls.{countsOf, ofTwo, isShort, isSparing, chosen, checkAnswer, planAnswer, plannedOf, returned, ChosenSheet, chooseAnswer, returnedChoice, numberOf, halves, countsNumbers, planningNumbers, choiceNumbers, countsWritten}
 use Rattle.model.specs.Calls.{Planned as PlanGiven}
 use Rattle.model.specs.Calls.{Mark as MarkGiven}
-use Rattle.model.proofs.Numbers.{check-within, plan-within}
+use Rattle.model.proofs.Numbers.{check-within, plan-within, refused-by}
 use Rattle.model.proofs.TwoSheets.{choose-within}
 use Rattle.model.proofs.Bytes
 use Rattle.checking.specs.Checking.{checkedOf}
@@ -22,7 +23,7 @@ use Rattle.checking.specs.declared.Checked.{Checked}
 use Rattle.returning.specs.Returning.{markAs, plannedAs, markNumber, ofWhich, chosenAs}
 use Rattle.returning.specs.declared.Planned.{Planned}
 use Rattle.returning.specs.declared.Chosen.{Chosen}
-use Rattle.planner.proofs.Laws.{refused-by, given-by, number-small, check-is, check-passing}
+use Rattle.planner.proofs.Laws.{given-by, number-small, check-is, check-passing}
 use Rattle.returning.proofs.TwoSheets.{two-chosen}
 use Rattle.returning.proofs.Laying.{laid-two, laid-twenty}
 
@@ -30,9 +31,9 @@ use Rattle.returning.proofs.Laying.{laid-two, laid-twenty}
 abbrev numbersOf : ℕ → List ℕ → List ℕ
 numbersOf rounds fetches = rounds ∷ each (λ d. getD fetches d 0) 0 8
 
-same-numbers : (schedule : Schedule) → numbersOf (countsOf schedule .rounds) (countsOf schedule .fetches) ≡ countsNumbers (countsOf schedule)
+same-numbers : (j : Job) (schedule : Schedule) → numbersOf (countsOf j schedule .rounds) (countsOf j schedule .fetches) ≡ countsNumbers (countsOf j schedule)
 unfolding countsOf each
-same-numbers schedule = refl
+same-numbers j schedule = refl
 
 -- A call that is refused writes nothing; one that is not writes its numbers.
 module _ {A : Type 0} (numbers : A → List ℕ) (a : Answer A) (number : ℕ) (e : number ≡ numberOf a) where
@@ -61,7 +62,7 @@ module _ (t : List ℕ) (stop : ℕ) (s : List ℕ) (r : Checked) (e : r ≡ che
       let v = Bytes.passes-valid t stop s (p .0) (p .1) in
       let same = e ∙ ap checkedOf (p .1 ∙ ap given (sym (v .4))) in
       wrote countsNumbers (checkAnswer t stop s) (r .number) (check-is t stop s r e) lent lent′ (p .0) (p .1) z
-      (w ∙ ap (λ (l : List ℕ). laidAt 0 (halves l) lent) (ap (λ (x : Checked). numbersOf (x .rounds) (x .fetches)) same ∙ same-numbers (v .1) ∙ ap countsNumbers (v .4)))
+      (w ∙ ap (λ (l : List ℕ). laidAt 0 (halves l) lent) (ap (λ (x : Checked). numbersOf (x .rounds) (x .fetches)) same ∙ same-numbers (v .0) (v .1) ∙ ap countsNumbers (v .4)))
 
 -- Planning.
 
@@ -75,13 +76,13 @@ twentyLaid m r lent =
     laidAt 22 (halves (numbersOf (r .sparing .rounds) (r .sparing .fetches)))
     (laidAt 4 (halves (numbersOf (r .short .rounds) (r .short .fetches))) (laidAt 2 (be16 (r .length)) (laidAt 0 (be16 m) lent)))
 
-twenty-planned : (a b : Schedule) (lent : List ℕ)
-    → (let r = plannedAs (returned (given (plannedOf a b))) in twentyLaid (markNumber (r .mark)) r lent) ≡ laidAt 0 (halves (planningNumbers (plannedOf a b))) lent
+twenty-planned : (j : Job) (a b : Schedule) (lent : List ℕ)
+    → (let r = plannedAs (returned (given (plannedOf j a b))) in twentyLaid (markNumber (r .mark)) r lent) ≡ laidAt 0 (halves (planningNumbers (plannedOf j a b))) lent
 unfolding plannedAs returned plannedOf countsOf each
-twenty-planned a b lent =
-    let p = plannedOf a b in
-    ap (λ (m : ℕ). laidAt 22 (halves (countsNumbers (countsOf b))) (laidAt 4 (halves (countsNumbers (countsOf a))) (laidAt 2 (be16 (p .partLength)) (laidAt 0 (be16 m) lent)))) (mark-is (p .mark))
-    ∙ laid-twenty (chosen (p .mark) 0 1) (p .partLength) (countsNumbers (countsOf a)) (countsNumbers (countsOf b)) lent refl
+twenty-planned j a b lent =
+    let p = plannedOf j a b in
+    ap (λ (m : ℕ). laidAt 22 (halves (countsNumbers (countsOf j b))) (laidAt 4 (halves (countsNumbers (countsOf j a))) (laidAt 2 (be16 (p .partLength)) (laidAt 0 (be16 m) lent)))) (mark-is (p .mark))
+    ∙ laid-twenty (chosen (p .mark) 0 1) (p .partLength) (countsNumbers (countsOf j a)) (countsNumbers (countsOf j b)) lent refl
 
 module _ (t : List ℕ) (stop a b : ℕ) (r : Planned) (e : r ≡ plannedAs (returned (planAnswer t stop a b))) where
   plan-is : r .number ≡ numberOf (planAnswer t stop a b)
@@ -109,7 +110,7 @@ module _ (t : List ℕ) (stop a b : ℕ) (r : Planned) (e : r ≡ plannedAs (ret
       wrote planningNumbers (planAnswer t stop a b) (r .number) plan-is lent l₄ (p .0) (p .1) z
       (twenty
       ∙ ap (λ (v : Planned). twentyLaid (markNumber (v .mark)) v lent) same
-      ∙ twenty-planned _ _ lent
+      ∙ twenty-planned _ _ _ lent
       ∙ ap (λ (x : PlanGiven). laidAt 0 (halves (planningNumbers x)) lent) (q .2))
 
 -- The choice.

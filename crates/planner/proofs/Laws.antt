@@ -22,12 +22,7 @@ use Rattle.checking.specs.Checking.{checkedOf}
 use Rattle.checking.specs.declared.Checked.{Checked}
 use Rattle.planner.specs.Planner.{Unbeaten, Exact}
 
--- A call is refused where its number is not 0,
-pub refused-by : {A : Type 0} (a : Answer A) (number : ℕ) → number ≡ numberOf a → (number ≡ 0 → ⊥) → a ≡ refused number
-refused-by (given v) number e f = absurd (f e)
-refused-by (refused n) number e f = ap refused (sym e)
-
--- and where it is 0 it gives something, since no refusal has the number 0. Each number is small.
+-- A call gives something where its number is 0, since no refusal has the number 0. Each number is small.
 module _ {A : Type 0} (a : Answer A) (few : (n : ℕ) → a ≡ refused n → (1 ≤ n) × (n ≤ 21)) (number : ℕ) (e : number ≡ numberOf a) where
   pub given-by : number ≡ 0 → (v : A) × (a ≡ given v)
   given-by z = go a refl e
@@ -52,8 +47,8 @@ pub check-passing : (t : List ℕ) (stop : ℕ) (s : List ℕ) (r : Checked) →
 check-passing t stop s r e z = given-by (checkAnswer t stop s) (check-within t stop s) (r .number) (check-is t stop s r e) z
 
 -- Demands 2 and 3 hold of it.
-check-valid : (t : List ℕ) (stop : ℕ) (s : List ℕ) (j : Job) (schedule : Schedule) → jobUpTo t stop ≡ given j → ValidSheet j s schedule → checkedOf (checkAnswer t stop s) ≡ checkedOf (given (countsOf schedule))
-check-valid t stop s j schedule e v = ap checkedOf (passes-exactly t stop s (countsOf schedule) .1 (j, schedule, e, v, refl))
+check-valid : (t : List ℕ) (stop : ℕ) (s : List ℕ) (j : Job) (schedule : Schedule) → jobUpTo t stop ≡ given j → ValidSheet j s schedule → checkedOf (checkAnswer t stop s) ≡ checkedOf (given (countsOf j schedule))
+check-valid t stop s j schedule e v = ap checkedOf (passes-exactly t stop s (countsOf j schedule) .1 (j, schedule, e, v, refl))
 
 pub check-promised : (t : List ℕ) (stop : ℕ) (s : List ℕ) → Exact t stop s (checkedOf (checkAnswer t stop s)) × Unbeaten t stop (checkedOf (checkAnswer t stop s))
 unfolding Exact Unbeaten checkedOf
@@ -95,7 +90,7 @@ module _ (t : List ℕ) (stop : ℕ) (read : Ticket) (e : read ≡ ticketRead t)
   unfolding checkedOf checkAnswer checkFor
   check-refused s f = check-returned t stop s _ (sym (ap (λ x. checkedOf (checkFor s x)) (ticket-refused f)))
 
-  pub check-given : (s : List ℕ) (r : Checked) → n ≡ 0 → r ≡ checkedOf (passOf (scheduleRead (jobOf (counting stop (read .job))) s))
+  pub check-given : (s : List ℕ) (r : Checked) → n ≡ 0 → r ≡ checkedOf (passOf (jobOf (counting stop (read .job))) (scheduleRead (jobOf (counting stop (read .job))) s))
       → (r ≡ checkedOf (checkAnswer t stop s)) × Exact t stop s r × Unbeaten t stop r
   unfolding checkAnswer checkFor
   check-given s r z q = check-returned t stop s r (q ∙ sym (ap (λ x. checkedOf (checkFor s x)) (ticket-given z)))

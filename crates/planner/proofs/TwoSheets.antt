@@ -7,6 +7,7 @@ use native.Mathlib.Omega.{arith}
 use lib.ListN.{length}
 use Rattle.bits.specs.Reading.{Answer, given, refused}
 use Rattle.model.specs.Calls.{jobUpTo, Counts, Which, isFirst, isSecond, ofTwo, whichFor, checkAnswer, checkFor, ChosenSheet, chosenOf, chooseAnswer, returnedChoice}
+use Rattle.model.proofs.Numbers.{refused-by}
 use Rattle.model.proofs.TwoSheets.{chosen-given, both-pass, first-refused, second-refused, length-two}
 use Rattle.model.proofs.Promises.{chosen-passes}
 use Rattle.checking.specs.Checking.{checkedOf}
@@ -14,7 +15,7 @@ use Rattle.checking.specs.declared.Checked.{Checked}
 use Rattle.returning.specs.Returning.{whichAs, chosenAs, preferenceOf}
 use Rattle.returning.specs.declared.Chosen.{Chosen}
 use Rattle.planner.specs.Planner.{Preferred}
-use Rattle.planner.proofs.Laws.{refused-by, check-is, check-passing}
+use Rattle.planner.proofs.Laws.{check-is, check-passing}
 
 -- the other sheet takes no fewer rounds than the one handed back
 no-fewer : (a b : Counts) (w : Which) → ofTwo w a b .rounds ≤ a .rounds → ofTwo w a b .rounds ≤ b .rounds → ofTwo w a b .rounds ≤ ofTwo w b a .rounds

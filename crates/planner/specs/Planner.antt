@@ -20,13 +20,13 @@ planInto ticket stop short sparing = planAnswer ticket stop (length short) (leng
 abbrev pub pageInto : List ℕ → ℕ → List ℕ → List ℕ → List ℕ → Answer PlannedPage
 pageInto ticket stop short sparing page = pageAnswer ticket stop (length short) (length sparing) (length page)
 
--- Demand 2, of what a check returns: it passes a sheet exactly if that is a valid schedule of the ticket's job up to the stop, and with that schedule's
--- counts.
+-- Demand 2, of what a check returns: it passes a sheet exactly if that is a valid schedule of the ticket's job up to the stop, and with that
+-- schedule's counts.
 unfoldable pub Exact : List ℕ → ℕ → List ℕ → Checked → Type 0
 unfolding jobUpTo countsOf checkedOf
 Exact ticket stop sheet r =
     ((r .number ≡ 0) ↔ ((j : Job) × (schedule : Schedule) × (jobUpTo ticket stop ≡ given j) × ValidSheet j sheet schedule))
-    × ((j : Job) (schedule : Schedule) → jobUpTo ticket stop ≡ given j → ValidSheet j sheet schedule → r ≡ checkedOf (given (countsOf schedule)))
+    × ((j : Job) (schedule : Schedule) → jobUpTo ticket stop ≡ given j → ValidSheet j sheet schedule → r ≡ checkedOf (given (countsOf j schedule)))
 
 -- Demand 3, of what a check returns: a sheet that passes takes at least the short plan's rounds, and on every disk at least the sparing plan's
 -- fetches.

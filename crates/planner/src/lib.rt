@@ -1,6 +1,6 @@
 // The public calls: planning and the part with the sheet to run, planning with a page, the check, the choice between two sheets and the sheet chosen;
 // and planning, check and choice from C. Document 01, its calls; document 02, L1 to L3, and L5: planning, page, check and choice take a stop, "the
-// number of references that count", and any number may be given; 21 if it is above N.
+// number of references that count", and any number may be given; 21 if it is above N. L7: rounds are those charged, in all that is returned.
 use checking::Checked;
 use returning::Chosen;
 use returning::Planned;
@@ -11,7 +11,8 @@ ghost use Rattle.checking.specs.Checking.{checkedOf};
 ghost use Rattle.returning.specs.Returning.{plannedAs, chosenAs, whichGiven, whichBegins};
 ghost use Rattle.planner.specs.Planner.{planInto, pageInto, Unbeaten, Exact, Promised, Preferred};
 
-// Planning: a ticket, a stop, and the lent buffers for the short and the sparing sheet. What it returns, both buffers afterwards, and what is promised.
+// Planning: a ticket, a stop, and the lent buffers for the short and the sparing sheet. What it returns, both buffers afterwards, and what is
+// promised.
 pub fn plan(ticket: &[u8], stop: usize, short: &mut [u8], sparing: &mut [u8]) -> Planned
     ensures { λ r. ⌜ (let a = planInto (now (ticket .entry)) stop (now (short .entry)) (now (sparing .entry)) in
         (r ≡ plannedAs (returned a))
@@ -40,8 +41,8 @@ pub fn part<'a>(short: &'a [u8], sparing: &'a [u8], planned: Planned) -> &'a [u8
     returning::handed_slice(which, planned.length, short, sparing)
 }
 
-// Planning with a page (L2): a ticket, a stop, and the lent buffers for the short and the sparing sheet and for the page of the plan handed back. What
-// it returns, the three buffers afterwards, and what is promised of planning.
+// Planning with a page (L2): a ticket, a stop, and the lent buffers for the short and the sparing sheet and for the page of the plan handed back.
+// What it returns, the three buffers afterwards, and what is promised of planning.
 pub fn plan_with_page(
     ticket: &[u8],
     stop: usize,
@@ -86,8 +87,8 @@ pub fn check(ticket: &[u8], stop: usize, sheet: &[u8]) -> Checked
     checking::check(read.job, sheet)
 }
 
-// The choice between two sheets for a ticket and a stop, whoever drew them up: "both are checked, the first before the second, and a failure gives the
-// check's number". What it returns, and what is promised. `chosen_sheet` hands back the sheet.
+// The choice between two sheets for a ticket and a stop, whoever drew them up: "both are checked, the first before the second, and a failure gives
+// the check's number". What it returns, and what is promised. `chosen_sheet` hands back the sheet.
 pub fn choose(ticket: &[u8], stop: usize, first: &[u8], second: &[u8]) -> Chosen
     ensures { λ r. ⌜ (let a = chooseAnswer (now (ticket .entry)) stop (now (first .entry)) (now (second .entry)) in
         (r ≡ chosenAs (returnedChoice a))

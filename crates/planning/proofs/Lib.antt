@@ -1,6 +1,1 @@
-pub mod TurnsRight
-mod Sizes
-mod WrittenSoFar
-mod RestOfPlan
-mod Driven
 mod Opened

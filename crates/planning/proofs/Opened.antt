@@ -30,13 +30,13 @@ use Rattle.choosing.specs.declared.Rule.{Rule}
 use Rattle.choosing.specs.declared.Rule.the-variants.{Short, Sparing}
 use Rattle.choosing.proofs.Right.{Listed, Pointer, DiskRight, Right, Forward}
 use Rattle.choosing.proofs.PointerRight.{forward-ahead, forward-made}
-use Rattle.planning.specs.Driving.{noActs, drivenFrom, reasonsFrom}
-use Rattle.planning.specs.Planning.{totalsOf, plansOf}
-use Rattle.planning.specs.declared.Totals.{Totals}
-use Rattle.planning.specs.Sized.{Sized, Kept}
-use Rattle.planning.proofs.TurnsRight.{inputOf, StandsFor}
-use Rattle.planning.proofs.Driven.{driven-is, driven-reasons}
-use Rattle.planning.proofs.RestOfPlan.{inputWith, stateWith}
+use Rattle.driving.specs.Driving.{noActs, drivenFrom, reasonsFrom, totalsOf}
+use Rattle.driving.specs.Sized.{Sized, Kept}
+use Rattle.driving.specs.declared.Totals.{Totals}
+use Rattle.driving.proofs.Input.{inputWith, stateWith, inputOf}
+use Rattle.driving.proofs.TurnsRight.{StandsFor}
+use Rattle.driving.proofs.Driven.{driven-is, driven-reasons}
+use Rattle.planning.specs.Planning.{plansOf}
 
 -- a desk and steps of zeros
 abbrev pub noDesk : List (List ℕ)

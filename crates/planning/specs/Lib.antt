@@ -1,3 +1,1 @@
 pub mod Planning
-pub mod Driving
-pub mod Sized

@@ -1,18 +1,15 @@
--- What the programs print: with the stop N, what they printed before there were stops. Document 01: "For F the program prints exactly the lines
--- below"; and G, short, and K's single byte 00, which both programs refuse with 2. Pages are rows of the table in `model`. Document 02, L6: what
--- `passes` prints for its note, with and without a line feed. Assumes nothing.
+-- What `plan` and `page` print: with the stop N, what they printed before there were stops. Document 01: "For F the program prints exactly the lines
+-- below"; and G, short, and K's single byte 00, which both programs refuse with 2. Pages are rows of the table in `model`. Assumes nothing.
 use mathlib.Core.Path.{_≡_, refl, ap}
-use mathlib.Core.List.{List, [], _∷_, _++_}
+use mathlib.Core.List.{List}
 use Prim.Native.Nat.{ℕ}
 use Rattle.bits.specs.Reading.{bind, _>>=_, _>>_, give, field, refuseIf, many, closing, answer, readAll}
 use Rattle.model.specs.Job.{upTo}
 use Rattle.model.specs.Ticket.{slotsField, diskField, refField, ticketReader, ticketOf}
 use Rattle.model.specs.Calls.{stopAt, jobUpTo, plannedFor, pageFor}
-use Rattle.model.specs.Text.{text}
 use Rattle.model.specs.Playing.{noneResident, load, play}
 use Rattle.model.proofs.Answers.{hex}
 use Rattle.model.proofs.Promises.{whole-plan, whole-page}
-use Rattle.report.specs.Passes.{passesPrinted}
 use Rattle.report.specs.Report.{linesOf, disksOf, printed, pageLines, pagePrinted}
 
 -- L5: "A stop equal to N is the old call": the plan, and the page, of all references of the ticket
@@ -42,30 +39,3 @@ prints-K = refl
 pub page-K : pagePrinted 278613 (hex 1 0x00) ≡ hex 10 0x7265667573656420320a
 unfolding pagePrinted hex _>>=_ _>>_ bind give field refuseIf many closing answer readAll stopAt upTo jobUpTo slotsField diskField refField ticketReader ticketOf
 page-K = refl
-
--- "So `1 2*3 | (4 5)*2` gives 1 4 2 5 2 4 2 5": with a line feed at its end, and with none
-pub passes-feed : passesPrinted (text "1 2*3 | (4 5)*2" ++ 10 ∷ []) ≡ text "1 4 2 5 2 4 2 5" ++ 10 ∷ []
-unfolding passesPrinted text
-passes-feed = refl
-
-pub passes-none : passesPrinted (text "1 2*3 | (4 5)*2") ≡ text "1 4 2 5 2 4 2 5" ++ 10 ∷ []
-unfolding passesPrinted text
-passes-none = refl
-
--- "an empty note .. is malformed", with a line feed too; and a second line feed is part of the note
-pub passes-empty : passesPrinted [] ≡ text "refused 22" ++ 10 ∷ []
-unfolding passesPrinted text
-passes-empty = refl
-
-pub passes-feed-alone : passesPrinted (10 ∷ []) ≡ text "refused 22" ++ 10 ∷ []
-unfolding passesPrinted text
-passes-feed-alone = refl
-
-pub passes-two-feeds : passesPrinted (text "1" ++ 10 ∷ 10 ∷ []) ≡ text "refused 22" ++ 10 ∷ []
-unfolding passesPrinted text
-passes-two-feeds = refl
-
--- blocks of one, two and three digits
-pub passes-digits : passesPrinted (text "0 10 511*2") ≡ text "0 10 511 511" ++ 10 ∷ []
-unfolding passesPrinted text
-passes-digits = refl

@@ -12,15 +12,14 @@ use Rattle.model.specs.Ticket.{ticketOf}
 use Rattle.model.specs.Text.{text}
 use Rattle.model.specs.Plans.{each}
 use Rattle.model.specs.Calls.{referencesOf, returned, written, PlannedPage, pageAnswer, planGiven, pageLength, pageAfter, numberOf}
-use Rattle.model.proofs.Numbers.{page-within}
+use Rattle.model.proofs.Numbers.{page-within, refused-by}
 use Rattle.model.proofs.Promises.{page-exactly}
 use Rattle.returning.specs.Returning.{plannedAs}
 use Rattle.returning.specs.declared.Planned.{Planned}
 use Rattle.returning.specs.declared.PlannedPage.{PlannedPage as PageValue}
-use Rattle.planner.proofs.Laws.{refused-by}
-use Rattle.report.specs.Report.{refusalLine, pageLines, pagePrinted}
-use Rattle.report.specs.Text.{Put}
-use Rattle.report.proofs.Laws.{end-seven}
+use Rattle.texts.specs.Texts.{Put, refusalLine}
+use Rattle.texts.proofs.Laws.{end-seven, put-laid}
+use Rattle.report.specs.Report.{pageLines, pagePrinted}
 
 -- A buffer holds what is printed, and that has n bytes.
 abbrev pub Printed : List ℕ → List ℕ → List ℕ → ℕ → Type 0
@@ -55,13 +54,12 @@ module _ (t out : List ℕ) (stop : ℕ) (r : PageValue) {after : List ℕ}
 
   -- a refusal leaves the buffer as it was, and its line is put there
   pub refusal-printed : (r .planned .number ≡ 0 → ⊥) → {after′ : List ℕ} {n : ℕ} → Put 0 (refusalLine (r .planned .number)) after after′ n → Printed t out after′ n
-  unfolding pageLines written laidAt
+  unfolding pageLines written
   refusal-printed f {after′} {n} put =
       let e = refused-by a (r .planned .number) number-is f in
       let same : pagePrinted (length out) t ≡ refusalLine (r .planned .number) = lines-are ∙ ap pageLines e in
-      let next = put .next in
-      let long = ap length same in
-      (put .bytes ∙ (λ i. laid (sym same i) ((ea ∙ ap (λ (x : Answer PlannedPage). pageAfter x out) e) i)), omega (arith, next, long))
+      let w = put-laid (sym same) put in
+      (w .0 ∙ ap (laid (pagePrinted (length out) t)) (ea ∙ ap (λ (x : Answer PlannedPage). pageAfter x out) e), w .1)
 
   -- and otherwise the buffer holds the page
   pub page-printed : r .planned .number ≡ 0 → Printed t out after (r .length)

@@ -6,12 +6,11 @@ use Prim.Native.Nat.{ℕ, _≤_}
 use native.Mathlib.Omega.{arith}
 use lib.ListN.{length}
 use Rattle.bits.specs.Bits.{laid}
-use Rattle.bits.specs.Fields.{laidAt}
 use Rattle.bits.specs.Reading.{Answer, given, refused}
 use Rattle.job.specs.Meaning.{stored}
 use Rattle.model.specs.Job.{Job}
 use Rattle.model.specs.Ticket.{ticketOf}
-use Rattle.model.specs.Calls.{referencesOf, isShort, isSparing, Mark, countsOf, fetchesOn, chosen, plannedOf, planAnswer, returned}
+use Rattle.model.specs.Calls.{referencesOf, isShort, isSparing, Mark, countsOf, shortCounts, sparingCounts, fetchesOn, chosen, plannedOf, planAnswer, returned}
 use Rattle.model.specs.Calls.{Planned as PlanGiven}
 use Rattle.model.proofs.Ticket.{ticket-sound}
 use Rattle.model.proofs.Promises.{short-rounds, sparing-rounds}
@@ -21,12 +20,14 @@ use Rattle.ticket.specs.Meaning.{noTicket, answerOf, ticketRead}
 use Rattle.ticket.specs.declared.Ticket.{Ticket}
 use Rattle.returning.specs.Returning.{markAs, plannedAs}
 use Rattle.returning.specs.declared.Planned.{Planned}
-use Rattle.report.specs.Report.{lineEnd, markWord, diskLines, linesOf, disksOf, printed}
-use Rattle.report.specs.Text.{Put, planText, textBy, textOf, Small}
+use Rattle.texts.specs.Texts.{Put, lineEnd}
+use Rattle.texts.proofs.Laws.{put-laid}
+use Rattle.report.specs.Report.{markWord, diskLines, linesOf, disksOf, printed}
+use Rattle.report.specs.Text.{planText, textBy, textOf, Small}
 
 -- the numbers of a call are small
 pub small : (t : List ℕ) (stop a b : ℕ) (r : Planned) → r ≡ plannedAs (returned (planAnswer t stop a b)) → Small r
-unfolding plannedAs returned plannedOf countsOf
+unfolding plannedAs returned plannedOf countsOf shortCounts sparingCounts
 small t stop a b r e = subst Small (sym e) (go (planAnswer t stop a b) refl)
   where
     go : (x : Answer PlanGiven) → planAnswer t stop a b ≡ x → Small (plannedAs (returned x))
@@ -80,11 +81,9 @@ same-text disks (refused n) = refl
 -- what is put, after planning with the stop N, is what is printed
 pub put-printed : (t : List ℕ) (stop : ℕ) (read : Ticket) (planned : Planned) (before after : List ℕ) (r : ℕ) → planned ≡ plannedAs (returned (planAnswer t stop 40962 40962))
     → stop ≡ referencesOf (ticketOf t) → read ≡ ticketRead t → Put 0 (textOf planned (read .job .disks)) before after r → (after ≡ laid (printed t) before) × (r ≡ length (printed t))
-unfolding printed laidAt
+unfolding printed
 put-printed t stop read planned before after r q whole e p =
     let a = planAnswer t (referencesOf (ticketOf t)) 40962 40962 in
     let with-n = q ∙ ap (λ (n : ℕ). plannedAs (returned (planAnswer t n 40962 40962))) whole in
     let same : textOf planned (read .job .disks) ≡ printed t = (λ i. textOf (with-n i) (disks-are t read e i)) ∙ same-text (disksOf (ticketOf t)) a in
-    let n = p .next in
-    let l = ap length same in
-    (p .bytes ∙ ap (λ (s : List ℕ). laid s before) same, omega (arith, n, l))
+    put-laid same p

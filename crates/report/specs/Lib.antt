@@ -1,3 +1,2 @@
-pub mod Passes
 pub mod Report
 pub mod Text

@@ -1,22 +1,13 @@
--- What the programs print. `plan`: document 01, "One program reads a ticket from standard input, plans it into two buffers that each hold the longest
--- sheet, and prints the result", with the lines that "Jobs worked through" gives for F. `page`: the page of document 02, L2. Assumes nothing.
-use mathlib.Core.List.{List, [], _∷_, _++_}
+-- What is printed for a ticket. `plan`: document 01, "One program reads a ticket from standard input, plans it into two buffers that each hold the
+-- longest sheet, and prints the result", with the lines that "Jobs worked through" gives for F. `page`: the page of document 02, L2. Assumes nothing.
+use mathlib.Core.List.{List, [], _++_}
 use Prim.Native.Nat.{ℕ, zero, suc}
 use Rattle.bits.specs.Reading.{Answer, given, refused}
 use Rattle.model.specs.Job.{Job, diskCount}
 use Rattle.model.specs.Ticket.{ticketOf}
 use Rattle.model.specs.Text.{text, decimal}
 use Rattle.model.specs.Calls.{referencesOf, fetchesOn, Mark, isShort, isSparing, Planned, handedCounts, planAnswer, PlannedPage, pageAnswer}
-
--- "a space and the number. Every line ends in a line feed."
-unfoldable pub lineEnd : ℕ → List ℕ
-unfolding decimal
-lineEnd n = 32 ∷ (decimal n ++ 10 ∷ [])
-
--- "A refusal prints `refused`, a space and the number."
-unfoldable pub refusalLine : ℕ → List ℕ
-unfolding text lineEnd
-refusalLine n = text "refused" ++ lineEnd n
+use Rattle.texts.specs.Texts.{lineEnd, refusalLine}
 
 abbrev pub markWord : Mark → List ℕ
 markWord isShort = text "short"

@@ -1,20 +1,14 @@
--- Text put into a lent slice, and the text of a planning call's value. Assumes nothing.
-use mathlib.Core.Path.{_≡_}
+-- The text of a planning call's value. Assumes nothing.
 use mathlib.Core.List.{List, _++_}
-use Prim.Native.Nat.{ℕ, _+_, _≤_}
-use lib.ListN.{length, getD}
-use Rattle.bits.specs.Fields.{laidAt}
+use Prim.Native.Nat.{ℕ, _≤_}
+use lib.ListN.{getD}
 use Rattle.model.specs.Calls.{isShort, isSparing}
 use Rattle.returning.specs.declared.Counts.{Counts}
 use Rattle.returning.specs.declared.Planned.{Planned}
 use Rattle.returning.specs.declared.Mark.{Mark}
 use Rattle.returning.specs.declared.Mark.the-variants.{Unmarked, Short, Sparing}
-use Rattle.report.specs.Report.{lineEnd, diskLines, refusalLine, markWord}
-
--- A text written into a slice from the byte `at` on, as far as the slice reaches: the slice before and after it, and the place after the text.
-pub record Put (at : ℕ) (text before after : List ℕ) (place : ℕ) : Type 0 where
-  pub bytes : after ≡ laidAt at text before
-  pub next : place ≡ at + length text
+use Rattle.texts.specs.Texts.{lineEnd, refusalLine}
+use Rattle.report.specs.Report.{diskLines, markWord}
 
 -- The lines of a plan: its mark and its rounds, and then each disk.
 unfoldable pub planText : List ℕ → Counts → ℕ → List ℕ

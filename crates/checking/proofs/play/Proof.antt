@@ -15,22 +15,22 @@ use Rattle.checking.proofs.play.Statement.{statement}
 use Rattle.checking.proofs.play.Tie as tie
 
 abbrev Inv-loop : tie.InvT-loop
-Inv-loop sheet rounds job b₀ fetches₀ at₀ k d₀ b fetches at d = BeforeDisk job sheet rounds k b fetches at d
+Inv-loop sheet rounds job b₀ fetches₀ at₀ k charged d₀ b fetches at d = BeforeDisk job sheet rounds k charged b fetches at d
 
 abbrev μ-loop : tie.MeasureT-loop
-μ-loop sheet rounds job b₀ fetches₀ at₀ k d₀ b fetches at d = job .disks - d
+μ-loop sheet rounds job b₀ fetches₀ at₀ k charged d₀ b fetches at d = job .disks - d
 
 abbrev Inv-loop2 : tie.InvT-loop2
-Inv-loop2 sheet rounds job b₀ fetches at k d b = AtReading job sheet rounds fetches at k b
+Inv-loop2 sheet rounds job b₀ fetches at k charged₀ d b charged = AtReading job sheet rounds fetches at k b charged
 
 abbrev μ-loop2 : tie.MeasureT-loop2
-μ-loop2 sheet rounds job b₀ fetches at k d b = job .count - b .next
+μ-loop2 sheet rounds job b₀ fetches at k charged₀ d b charged = job .count - b .next
 
 abbrev Inv-rounds : tie.InvT-rounds
-Inv-rounds sheet rounds job b₀ fetches₀ at₀ k₀ b fetches at k = BeforeRound job sheet rounds b fetches at k
+Inv-rounds sheet rounds job b₀ fetches₀ at₀ k₀ charged₀ b fetches at k charged = BeforeRound job sheet rounds b fetches at k charged
 
 abbrev μ-rounds : tie.MeasureT-rounds
-μ-rounds sheet rounds job b₀ fetches₀ at₀ k₀ b fetches at k = rounds - k
+μ-rounds sheet rounds job b₀ fetches₀ at₀ k₀ charged₀ b fetches at k charged = rounds - k
 
 empty-requires : tie.Need-empty-requires Inv-loop μ-loop Inv-loop2 μ-loop2 Inv-rounds μ-rounds
 empty-requires c κs = tt

@@ -6,10 +6,11 @@ use native.Mathlib.Omega.{arith}
 use lib.ListN.{getD}
 use mir.Syntax.{w16}
 use mir.Val.{Fits}
-use Rattle.report.specs.Report.{diskLines}
-use Rattle.report.specs.Text.{Put}
 use Rattle.model.proofs.Text.{digit-one}
-use Rattle.report.proofs.Laws.{end-seven, put-start, put-same, put-length, put-disk}
+use Rattle.texts.specs.Texts.{Put}
+use Rattle.texts.proofs.Laws.{end-seven, put-start, put-same, put-length}
+use Rattle.report.specs.Report.{diskLines}
+use Rattle.report.proofs.Laws.{put-disk}
 use Rattle.report.proofs.put_disks.Statement.{statement}
 use Rattle.report.proofs.put_disks.Tie as tie
 

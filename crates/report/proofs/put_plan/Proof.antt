@@ -1,7 +1,7 @@
 -- `report::put_plan` meets its contract: three texts, one after the other. Assumes nothing.
 use native.Mathlib.Omega.{arith}
+use Rattle.texts.proofs.Laws.{end-seven, put-then}
 use Rattle.report.specs.Text.{planText}
-use Rattle.report.proofs.Laws.{end-seven, put-then}
 use borrow.Author.Needs.{needs}
 use Rattle.report.proofs.put_plan.Statement.{statement}
 use Rattle.report.proofs.put_plan.Tie as tie

@@ -1,0 +1,6 @@
+pub mod Input
+pub mod TurnsRight
+mod Sizes
+mod WrittenSoFar
+mod RestOfPlan
+pub mod Driven

@@ -1,0 +1,2 @@
+pub mod PassesPrinted
+pub mod Cases
