@@ -2,8 +2,9 @@
  *
  * An input's first sheet is checked for its ticket up to its stop, the choice is made between its two sheets, and its ticket is planned; the sheets
  * of a plan are checked too, one of them also with rounds put after it, and the choice is made between them and between one of them and the first
- * sheet. Numbers, counts and all lent bytes must be the reference's, with guard bytes around them, no sheet that passes may beat a plan, and rounds
- * after a plan's may not be charged. The header must read the same N from the ticket. */
+ * sheet. Numbers, counts and all lent bytes must be the reference's, with guard bytes around them, no sheet that passes may beat a plan, rounds after
+ * a plan's may not be charged, and the sparing plan may take at most D times the rounds of the short one. The header must read the same N from the
+ * ticket. */
 #include "../tests/draw.h"
 #include "input.h"
 #include <planner.h>
@@ -125,6 +126,27 @@ static size_t room_for(size_t length, enum room room)
     return room == EXACT ? length : room == ONE_SHORT ? length - 1 : room == AMPLE ? length + 9 : 5;
 }
 
+/* The rounds that are written in a sheet that the library wrote. */
+static unsigned written_in(const struct lent *sheet)
+{
+    const uint8_t *at = sheet->have + GUARD;
+
+    return (unsigned)at[0] << 4 | at[1] >> 4;
+}
+
+/* Request L8, of a planning call that is not refused: the library's sheets, which have no rounds but those charged, and its mark, where there is room
+ * for it. */
+static void keeps_bound(const struct input *in, const struct lent *p_min, const struct lent *p_con, const struct lent *counts)
+{
+    unsigned disks = in->ticket[0] >> 4, rounds = written_in(p_min);
+
+    if (disks == 1) {
+        must(written_in(p_con) == rounds, "on one disk the sparing plan takes other rounds than the short one");
+        must(counts->len < 2 || (counts->have[GUARD] == 0 && counts->have[GUARD + 1] == REF_P_CON), "on one disk the short plan is marked");
+    }
+    must(written_in(p_con) <= disks * rounds, "the sparing plan takes more than D times the rounds of the short one");
+}
+
 /* Gives the number; rooms for sheets of the given lengths. */
 static unsigned try_plan(const struct input *in, const size_t length[2])
 {
@@ -137,6 +159,7 @@ static unsigned try_plan(const struct input *in, const size_t length[2])
 
     same_number(have, want, "planning's number");
     if (want == 0) {
+        keeps_bound(in, &s, &p, &c);
         ref_planned_numbers(&planned, numbers);
         ref_fill_counts(numbers, REF_PLANNED_NUMBERS, c.want + GUARD, c.len);
     }

@@ -21,7 +21,11 @@
  * to the end. Of either plan all rounds are charged.
  *
  * No sheet that planner_check passes for a ticket and a stop takes fewer rounds than the short plan for them, or on any disk fewer fetches than the
- * sparing plan, whatever it does after its last read. This, each result and every byte written are proved of the source; the compiler is trusted.
+ * sparing plan, whatever it does after its last read. This, the bound below, each result and every byte written are proved of the source; the
+ * compiler is trusted.
+ *
+ * With D disks the sparing plan takes at most D times the rounds of the short plan, and with one disk equally many; the worst jobs known come near
+ * that: with 2 disks 1,203 rounds where the short plan takes 603, with 8 disks 668 where it takes 87.
  *
  * Rules for planner_plan, planner_check and planner_choose:
  *   - Each slice is a pointer and a length in bytes, a ticket of planner_references too. A pointer may be null only with the length 0.

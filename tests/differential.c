@@ -8,7 +8,8 @@
  * every length from 0 to 45; the check met sheets for a later and for an earlier stop, and passed
  * sheets of which all rounds are charged, not all, and none; the choice met also each number of a
  * second sheet whose first passes, handed back either sheet, also where the rounds written would
- * have it the other, and met equal rounds and the same sheet twice; and the header read N from sound
+ * have it the other, and met equal rounds and the same sheet twice; a sparing plan took more than
+ * D - 1 times the rounds of the short one, with some D above 1; and the header read N from sound
  * tickets and other bytes. */
 #define _DEFAULT_SOURCE        /* for MAP_ANONYMOUS */
 #include "draw.h"
@@ -53,6 +54,9 @@ static struct {
     unsigned long idle_after, fetching_after;  /* plans' sheets with such rounds after them */
     unsigned long against[2];                  /* choices against the rounds written */
     unsigned long tied;                        /* choices of equal rounds, with others written */
+    struct {
+        unsigned p_min, p_con;                 /* the rounds of the largest factor, by disks */
+    } wait[REF_DISKS + 1];
 } run;
 
 /* ---- Lent slices ---- */
@@ -230,11 +234,49 @@ static void count_stop(enum call call, struct part part, unsigned number)
         run.ticket_first[call]++;
 }
 
+/* The rounds that are written in a sheet, which has them. */
+static unsigned written_in(struct bytes sheet)
+{
+    return (unsigned)sheet.at[0] << 4 | sheet.at[1] >> 4;
+}
+
+/* The first number in a counts slice, or another if it is too short. */
+static unsigned mark_in(const struct lent *counts, unsigned other)
+{
+    const uint8_t *at = counts->real + GUARD;
+
+    return counts->len < 2 ? other : (unsigned)at[0] << 8 | at[1];
+}
+
+/* Request L8, of the ticket, the sheets and the counts of a planning call that the library does not
+ * refuse: "the sparing plan takes at most D times the rounds of the short plan", whose sheets have no
+ * rounds but those charged. On one disk both then take as many, and the sparing one is marked. Gives
+ * what does not hold, or NULL. */
+static const char *waits_too_long(const struct lent *s)
+{
+    unsigned disks = s[0].want[0] >> 4;
+    unsigned p_min = written_in((struct bytes){s[1].real + GUARD, s[1].len});
+    unsigned p_con = written_in((struct bytes){s[2].real + GUARD, s[2].len});
+
+    if (disks == 1 && p_con != p_min)
+        return "on one disk the sparing plan takes other rounds than the short one";
+    if (disks == 1 && mark_in(&s[3], REF_P_CON) != REF_P_CON)
+        return "on one disk the short plan is marked";
+    if (p_con > disks * p_min)
+        return "the sparing plan takes more than D times the rounds of the short one";
+    if (run.wait[disks].p_min == 0 || p_con * run.wait[disks].p_min > run.wait[disks].p_con * p_min) {
+        run.wait[disks].p_min = p_min;
+        run.wait[disks].p_con = p_con;
+    }
+    return NULL;
+}
+
 static void try_plan(struct part part, size_t ns, size_t np)
 {
     const struct bytes ticket = part.ticket;
     uint16_t numbers[REF_PLANNED_NUMBERS];
     struct ref_planned planned;
+    const char *broken;
     struct lent s[4];
     unsigned want;
     uint32_t have;
@@ -247,6 +289,11 @@ static void try_plan(struct part part, size_t ns, size_t np)
     want = ref_plan(s[0].want, ticket.len, part.stop, s[1].want, ns, s[2].want, np, &planned);
     have = planner_plan(lent_at(&s[0]), ticket.len, part.stop, lent_at(&s[1]), ns, lent_at(&s[2]),
                         np, lent_at(&s[3]), s[3].len);
+    broken = have == 0 && want == 0 ? waits_too_long(s) : NULL;
+    if (broken != NULL) {
+        printf("DISAGREE: %s\n", broken);
+        fail(PLAN, s, 4);
+    }
     if (want == 0) {
         ref_planned_numbers(&planned, numbers);
         ref_fill_counts(numbers, REF_PLANNED_NUMBERS, s[3].want, s[3].len);
@@ -297,12 +344,6 @@ struct checked {
     unsigned number;
     struct ref_counts counts;
 };
-
-/* The rounds that are written in a sheet, which has them. */
-static unsigned written_in(struct bytes sheet)
-{
-    return (unsigned)sheet.at[0] << 4 | sheet.at[1] >> 4;
-}
 
 /* Counts a sheet that passes. */
 static void count_pass(const struct checked *c)
@@ -717,6 +758,19 @@ static bool all_else_met(void)
            run.same > 0;
 }
 
+/* The same of long waits: with some D above 1 one of more than D - 1 times the rounds. */
+static bool long_wait_met(void)
+{
+    bool met = false;
+
+    printf("  rounds of the sparing plan to those of the short one, at most, by disks:");
+    for (unsigned d = 1; d <= REF_DISKS; d++) {
+        printf(" %u: %u to %u%s", d, run.wait[d].p_con, run.wait[d].p_min, d < REF_DISKS ? "," : "\n");
+        met = met || (d > 1 && run.wait[d].p_con > (d - 1) * run.wait[d].p_min);
+    }
+    return met;
+}
+
 int main(int argc, char **argv)
 {
     uint64_t count = argc > 2 ? strtoull(argv[2], NULL, 10) : 20000;
@@ -737,8 +791,9 @@ int main(int argc, char **argv)
     for (int call = PLAN; call <= CHOOSE; call++)
         all = all_stops_met((enum call)call) && all;
     all = all_else_met() && all;
+    all = long_wait_met() && all;
     if (!all && first == 0)
         printf("FAIL: a number, a length of the counts slice, a kind of stop, of sheet, of choice or "
-               "of bytes was never met\n");
+               "of bytes, or a wait of more than D - 1 times the rounds was never met\n");
     return all || first != 0 ? 0 : 1;
 }

@@ -11,14 +11,16 @@ struct sizes {
     unsigned share;            /* of 1000 jobs */
     unsigned disks, slots, blocks, references;
     bool exactly;              /* these sizes, not up to them */
+    bool waiting;              /* of Theorem 8's family, so that P-CON waits long */
 };
 
 static const struct sizes sizes[] = {
-    {600, 4, 3, 12, 30, false},
-    {260, 8, 5, 40, 90, false},
-    {120, 8, 16, 150, 400, false},
-    {14, 8, 64, 512, 2048, false},
-    {6, 8, 64, 512, 2048, true},
+    {592, 4, 3, 12, 30, false, false},
+    {260, 8, 5, 40, 90, false, false},
+    {120, 8, 16, 150, 400, false, false},
+    {14, 8, 64, 512, 2048, false, false},
+    {6, 8, 64, 512, 2048, true, false},
+    {8, 8, 64, 512, 2048, false, true},
 };
 
 static const struct sizes *draw_sizes(struct chance *c)
@@ -115,10 +117,57 @@ static void draw_references(struct chance *c, struct ref_job *job)
     }
 }
 
+/* Two of the sequences of Theorem 8's family, on one disk: a block in front and then those between two
+ * places, twice, each time with its own block in front. Blocks are counted from the disk's first. */
+static void put_stretch(struct ref_job *job, unsigned first, const unsigned front[2], unsigned from,
+                        unsigned to)
+{
+    for (unsigned k = 0; k < 2; k++) {
+        job->reference[job->references++] = (uint16_t)(first + front[k]);
+        for (unsigned b = from; b < to; b++)
+            job->reference[job->references++] = (uint16_t)(first + b);
+    }
+}
+
+/* A job of the family by which Theorem 8 of document 000 shows that Theorem 7's bound is tight: M
+ * slots and 2M blocks on each disk, from B_i(1) on; on each disk in turn alpha and beta, then on each
+ * gamma and delta, repeated. One in six has all the disks, M = D and as many repetitions as fit, for a
+ * factor above 6 with 8 disks; of the others one in three has other slots on one disk. */
+static void draw_waiting(struct chance *c, const struct sizes *s, struct ref_job *job)
+{
+    bool largest = one_in(c, 6);
+    unsigned disks = largest ? s->disks : between(c, 1, s->disks), most = s->blocks / (2 * disks);
+    unsigned any = between(c, 1, one_in(c, 2) ? 8 : most < s->slots ? most : s->slots);
+    unsigned m = largest ? disks : any, all = s->references / (4 * m * disks);
+    unsigned some = between(c, 1, one_in(c, 2) || all < 8 ? all : 8);
+    unsigned repetitions = largest ? all : some, other = below(c, disks);
+
+    job->disks = disks;
+    job->blocks = 2 * m * disks;
+    for (unsigned d = 0; d < disks; d++)
+        job->slots[d] = m;
+    for (unsigned b = 0; b < job->blocks; b++)
+        job->disk[b] = (uint8_t)(b / (2 * m));
+    job->references = 0;
+    for (unsigned k = 0; k < 2 * repetitions; k++)
+        for (unsigned d = 0; d < disks; d++)
+            if (k % 2 == 0)    /* alpha and beta */
+                put_stretch(job, 2 * m * d, (const unsigned[]){2 * m - 1, m - 1}, 0, m - 1);
+            else               /* gamma and delta */
+                put_stretch(job, 2 * m * d, (const unsigned[]){m - 1, 2 * m - 1}, m, 2 * m - 1);
+    job->stop = job->references;
+    if (!largest && one_in(c, 3))
+        job->slots[other] = between(c, 1, REF_SLOTS);
+}
+
 void draw_job(struct chance *c, struct ref_job *job)
 {
     const struct sizes *s = draw_sizes(c);
 
+    if (s->waiting) {
+        draw_waiting(c, s, job);
+        return;
+    }
     job->disks = draw_size(c, 1, s->disks, s->exactly);
     draw_slots(c, s, job);
     job->blocks = draw_size(c, 1, s->blocks, s->exactly);

@@ -5,7 +5,8 @@
 #include "reference/chance.h"
 #include "reference/reference.h"
 
-/* A job within document 01's limits: mostly small, now and then at the very limits. Its stop is N. */
+/* A job within document 01's limits: mostly small, now and then at the very limits, and now and then
+ * of the kind on which P-CON waits long. Its stop is N. */
 void draw_job(struct chance *c, struct ref_job *job);
 
 /* A job with the longest ticket and the longest page, 2,048 rounds on eight disks: all references

@@ -71,8 +71,9 @@ build '' && "$dir/differential" 1 1000 >"$dir/report" || { cat "$dir/report"; ec
 "$dir/differential" 1 1 >"$dir/report"
 [ $? -eq 1 ] && grep -q '^FAIL' "$dir/report" || { echo "one job is taken for enough"; exit 1; }
 
-# A plan that does not end is cut at N rounds: its sheet is then too long for the room.
-at_most_n='s/(begin\(job, &r\); r.next_read < job->stop)(; schedule)/\1 \&\& counts->charged < job->stop\2/'
+# A plan that does not end is cut at N rounds: its sheet is then too long for the room. A look for the next reference that goes back is cut too.
+at_most_n='s/(begin\(job, &r\); r.next_read < job->stop)(; schedule)/\1 \&\& counts->charged < job->stop\2/
+    s/while \(from_u < l->distance\[v.u\]\)/while (from_u < l->distance[v.u] \&\& l->next[from_u] > from_u)/'
 
 fault '14 not tested' 'reference 14' 's/return 14;/return 0;/'
 fault '20 not tested' 'number: library [01].*, reference 20' 's/return 20;/;/'
@@ -87,7 +88,8 @@ fault 'lowest number among several nevers' 'DISAGREE: s' 's/(distance\[b\] )>=( 
 fault 'P-CON never waits' 'DISAGREE' 's/rule == REF_P_CON && waits/false \&\& waits/'
 fault 'positions in eight bits' 'number: library 17, reference 0' "/^static void build_lookup/,/^}/s/\\(uint16_t\\)/(uint8_t)/;$at_most_n"
 fault 'the position 2048 held as 0' 'number: library 17, reference 0' "s/\\(uint16_t\\)job->stop/(uint16_t)(job->stop % 2048)/;$at_most_n"
-fault 'the mark of equal rounds' 'DISAGREE: counts' 's/p->mark = choice\(p->counts\)/p->mark = p->counts[1].charged < p->counts[0].charged/'
+fault 'the mark of equal rounds, on several disks' 'DISAGREE: counts' \
+    's/p->mark = choice\(p->counts\)/p->mark = drawn->job.disks > 1 ? p->counts[1].charged < p->counts[0].charged : choice(p->counts)/'
 fault '18 tested before 17' 'number: library 18, reference 17' \
     's/p->sheet_length\[k\] > room\[k\]/p->sheet_length[1 - k] > room[1 - k]/;s/return 17 \+ k/return 18 - k/'
 fault 'exact room refused' 'number: library 17, reference 0' 's/p->sheet_length\[k\] > room/p->sheet_length[k] >= room/'
@@ -260,6 +262,23 @@ on_demand='if (view[d].u != REF_NONE \&\& r->l.distance[view[d].u] != before) vi
 both 'demand-only fetching' 'beats a plan (demand 3)' "s/^    survey\\(.*/&\\nfor (unsigned d = 0; d < job->disks; d++) $on_demand/"
 
 both 'a reference past the stop is no never' 'beats a plan (demand 3)' "$no_never"
+
+# How long the sparing plan waits: its fetches stay, no sheet beats it, and both sides agree.
+# idle_rounds CONDITION - the script that puts idle rounds into P-CON's schedule for as long as this holds of the job and of counts->charged.
+idle_rounds() {
+    printf '/^void ref_run/,/^}/s/^        play_round\\(.*/        while (rule == REF_P_CON \\&\\& job->stop < 2000 \\&\\& %s) {\\n'\
+'            memset(schedule, 0xff, job->disks * sizeof *schedule);\\n            schedule += job->disks;\\n'\
+'            counts->charged++;\\n        }\\n&/' "$1"
+}
+# With P-MIN of one round these make D + 1, by which the bound is pinned: D times and one more, or D + 1 times, would let them through.
+d_idle=$(idle_rounds 'job->disks > 1 \&\& counts->charged < job->disks')
+idle_on_one=$(idle_rounds 'job->disks == 1 \&\& counts->charged == 0')
+marked_on_one='s/p->mark = choice\(p->counts\)/p->mark = drawn->job.disks > 1 \&\& choice(p->counts)/'
+fault 'P-CON begins with an idle round, on one disk' 'takes other rounds than the short one' "$idle_on_one"
+fault 'P-MIN marked on one disk' 'on one disk the short plan is marked' "$marked_on_one"
+both 'P-CON begins with D idle rounds, on several disks' 'more than D times the rounds' "$d_idle"
+both 'P-CON begins with an idle round, on one disk' 'takes other rounds than the short one' "$idle_on_one"
+both 'P-MIN marked on one disk' 'on one disk the short plan is marked' "$marked_on_one"
 
 # A sheet for a later stop passes up to an earlier one.
 both 'no rounds after the stop is reached' 'is refused up to' \

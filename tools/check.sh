@@ -62,13 +62,14 @@ show()
     run sheet "$@" "$out/ticket" "$out/sheet"
 }
 
-# ends TITLE TICKET SHEET: the last rows and the totals of a long sheet.
+# ends TITLE TICKET SHEET [LINES]: the last rows and the totals of a long sheet.
 ends()
 {
     echo "== $1"
     unhex "$2" >"$out/ticket"
     unhex "$3" >"$out/sheet"
-    run eval 'sheet "$out/ticket" "$out/sheet" | tail -n 5'
+    lines=${4:-5}
+    run eval 'sheet "$out/ticket" "$out/sheet" | tail -n "$lines"'
 }
 
 # Cases A to G: from text to ticket and back, and both sheets.
@@ -334,6 +335,20 @@ stops()
     show '8: before 21' 102008001001 001800 -s 2
 }
 
+# The largest factors known: each text gives a ticket of the vectors in tests/, whose two sheets are then shown, their last round and the totals.
+waits()
+{
+    for disks in 2 8; do
+        ticket=$(ticket "cases/largest_factor_${disks}_disks.txt" | hex)
+        # The sheets are what the first plan of this ticket ends in.
+        # shellcheck disable=SC2046
+        set -- $(sed -n "s/^plan $ticket .* | \([^ ]*\) | \([^ ]*\)\$/\1 \2/p" ../tests/vectors/waiting.txt | head -n 1)
+        [ $# -eq 2 ] || { echo "$disks disks: another ticket"; continue; }
+        ends "$disks disks, P-MIN" "$ticket" "$1" $((disks + 3))
+        ends "$disks disks, P-CON" "$ticket" "$2" $((disks + 3))
+    done
+}
+
 # Bad usage.
 usage()
 {
@@ -359,7 +374,7 @@ A=$(vector A 1) B=$(vector B 1) C=$(vector C 1) D=$(vector D 1) F=$(vector F 1) 
 G=$(vector G 1) G_P_MIN=$(vector G 2) G_P_CON=$(vector G 3)
 G_TO_13=0058010220140a809032038090140703c0c0
 bad=0
-for group in cases good texts passes tickets sheets charged stops usage; do
+for group in cases good texts passes tickets sheets charged stops waits usage; do
     $group >"$out/$group.out"
     diff -u "expected/$group.out" "$out/$group.out" || bad=1
 done

@@ -12,8 +12,11 @@
  * that passes with the rounds that the search found, and is chosen by them; the choice between the
  * plans' sheets follows the rounds, and each line of the page says what the sheet handed back does,
  * with the letter of the papers; all that planning gives is the same for the job that ends at the
- * stop, and with other references from there on; and stops of 0, of N and in between, rounds after
- * the last reference, idle and fetching, idle rounds before it, and no rounds charged were met. */
+ * stop, and with other references from there on; P-CON takes at most as many rounds as it has fetches
+ * on all disks, at most D times the rounds of P-MIN on D disks (request L8), and as many on one; and
+ * stops of 0, of N and in between, rounds after the last reference, idle and fetching, idle rounds
+ * before it, no rounds charged, and with 2 and with 3 disks more than D - 1 times the rounds of P-MIN
+ * were met. */
 #include "chance.h"
 #include "reference.h"
 
@@ -23,7 +26,8 @@
 #include <string.h>
 
 /* MOST_REFERENCES is before the stop, MOST_PAST from there on. */
-enum { MOST_DISKS = 3, MOST_BLOCKS = 6, MOST_REFERENCES = 20, MOST_PAST = 6 };
+enum { MOST_DISKS = 3, MOST_BLOCKS = 8, MOST_REFERENCES = 32, MOST_PAST = 6 };
+enum { ANY_BLOCKS = 6, ANY_REFERENCES = 20 };   /* of jobs that are not of Theorem 8's kind */
 enum { SETS = 1 << MOST_BLOCKS };
 enum { ROUNDS = MOST_DISKS, UNREACHED = 1000000 };
 
@@ -124,17 +128,41 @@ static unsigned least(struct search *s, unsigned measure)
     return best;
 }
 
+/* The jobs of Theorem 8's kind: the family's own with two disks, two slots on each and two
+ * repetitions; and, as that with three disks has too many blocks, one with three disks, found by
+ * trying, for which P-MIN takes 7 rounds and P-CON 15. */
+static const struct ref_job waiting[] = {
+    {.disks = 2, .slots = {2, 2}, .blocks = 8, .disk = {0, 0, 0, 0, 1, 1, 1, 1},
+     .references = 32, .reference = {3, 0, 1, 0, 7, 4, 5, 4, 1, 2, 3, 2, 5, 6, 7, 6,
+                                     3, 0, 1, 0, 7, 4, 5, 4, 1, 2, 3, 2, 5, 6, 7, 6}},
+    {.disks = 3, .slots = {2, 1, 2}, .blocks = 8, .disk = {0, 0, 0, 1, 1, 2, 2, 2},
+     .references = 30, .reference = {0, 2, 6, 4, 3, 2, 1, 5, 7, 3, 4, 0, 2, 6, 5,
+                                     4, 3, 1, 0, 7, 6, 3, 4, 2, 1, 5, 7, 0, 6, 5}},
+};
+
+/* One of these: whole, or, by chance and if it may be, with a reference changed or up to a stop. */
+static void draw_waiting_job(struct chance *c, unsigned which, bool whole, struct ref_job *job)
+{
+    unsigned how = whole ? 0 : below(c, 3), at;
+
+    *job = waiting[which];
+    at = below(c, job->references);
+    job->stop = how == 2 ? at : job->references;
+    if (how == 1)
+        job->reference[at] = (uint16_t)below(c, job->blocks);
+}
+
 /* Two jobs in three are of any kind, with at most 8 references before the stop. The third has two
  * disks with one and two slots, is longer and reads in stretches of one disk: there the two plans
  * often part. In two jobs of three the stop may be before the end. */
-static void draw_small_job(struct chance *c, struct ref_job *job)
+static void draw_any_job(struct chance *c, struct ref_job *job)
 {
     bool tight = one_in(c, 3);
     unsigned last = 0;
 
     job->disks = tight ? 2 : between(c, 1, MOST_DISKS);
-    job->blocks = tight ? MOST_BLOCKS : between(c, 1, MOST_BLOCKS);
-    job->stop = tight ? between(c, 9, MOST_REFERENCES) : between(c, 0, 8);
+    job->blocks = tight ? ANY_BLOCKS : between(c, 1, ANY_BLOCKS);
+    job->stop = tight ? between(c, 9, ANY_REFERENCES) : between(c, 0, 8);
     job->references = job->stop + (one_in(c, 3) ? 0 : below(c, MOST_PAST + 1));
     for (unsigned d = 0; d < job->disks; d++)
         job->slots[d] = tight ? d + 1 : between(c, 1, 3);
@@ -149,6 +177,16 @@ static void draw_small_job(struct chance *c, struct ref_job *job)
         job->reference[i] = (uint16_t)b;
         last = b;
     }
+}
+
+/* Every 100th job is of Theorem 8's kind, the one with 2 disks and the one with 3 in turn; the first of
+ * each is whole, so that 200 jobs meet both. */
+static void draw_small_job(struct chance *c, uint64_t number, struct ref_job *job)
+{
+    if (number % 100 == 99)
+        draw_waiting_job(c, number / 100 % 2, number < 200, job);
+    else
+        draw_any_job(c, job);
 }
 
 /* A ticket and a stop, and both sheets by rule. */
@@ -289,6 +327,57 @@ static bool plans_are_charged(const struct ref_job *job, const struct written *w
     return good;
 }
 
+/* ---- How long P-CON waits ---- */
+
+/* The largest factor met: the job whose rounds of P-CON are the most times those of P-MIN, by disks. */
+static struct {
+    unsigned p_min, p_con;
+} longest_wait[MOST_DISKS + 1];
+
+static void count_wait(unsigned disks, unsigned p_min, unsigned p_con)
+{
+    if (longest_wait[disks].p_min == 0 ||
+        p_con * longest_wait[disks].p_min > longest_wait[disks].p_con * p_min) {
+        longest_wait[disks].p_min = p_min;
+        longest_wait[disks].p_con = p_con;
+    }
+}
+
+/* The bound that the rounds of P-CON do not keep, or NULL: on one disk those of P-MIN; D times those of
+ * P-MIN (request L8); its fetches on all disks, as none of its rounds is idle on every disk. Where no
+ * schedule beats the plans, the first two follow from the third; so they are tested before it. */
+static const char *waits_too_long(const struct ref_job *job, const struct ref_planned *planned)
+{
+    unsigned p_min = planned->counts[REF_P_MIN].charged, fetches = 0;
+    unsigned p_con = planned->counts[REF_P_CON].charged;
+
+    for (unsigned d = 0; d < job->disks; d++)
+        fetches += planned->counts[REF_P_CON].fetches[d];
+    if (job->disks == 1 && p_con != p_min)
+        return "OTHER ROUNDS OF P-CON ON ONE DISK";
+    if (p_con > job->disks * p_min)
+        return "MORE THAN D TIMES THE ROUNDS OF P-MIN";
+    if (p_con > fetches)
+        return "MORE ROUNDS OF P-CON THAN FETCHES";
+    count_wait(job->disks, p_min, p_con);
+    return NULL;
+}
+
+/* Prints the largest factors met; false if P-CON never took more than D - 1 times the rounds of P-MIN
+ * with 2 or with 3 disks. */
+static bool long_waits_met(void)
+{
+    bool all = true;
+
+    printf("  rounds of P-CON to those of P-MIN, at most, by disks:");
+    for (unsigned d = 1; d <= MOST_DISKS; d++) {
+        printf(" %u: %u to %u%s", d, longest_wait[d].p_con, longest_wait[d].p_min,
+               d < MOST_DISKS ? "," : "\n");
+        all = all && (d == 1 || longest_wait[d].p_con > (d - 1) * longest_wait[d].p_min);
+    }
+    return all;
+}
+
 /* ---- The ways of the search, as sheets ---- */
 
 /* No way is longer: no more rounds are charged than there are references, and after these each set
@@ -340,10 +429,10 @@ static unsigned put_idle(struct chance *c, const struct ref_job *job, struct way
 /* Some set that is reached with all references before the stop consumed. */
 static unsigned reached(struct chance *c, const struct search *s)
 {
-    unsigned set = below(c, SETS);
+    unsigned sets = 1u << s->job->blocks, set = below(c, sets);
 
     while (s->cost[s->job->stop][set] == UNREACHED)
-        set = (set + 1) % SETS;
+        set = (set + 1) % sets;
     return set;
 }
 
@@ -612,6 +701,7 @@ static const char *search_job(struct chance *c, const struct ref_job *job)
     static struct written written;
     static struct way way;
     struct ref_planned planned;
+    const char *wrong;
 
     if (!both_pass(job, &written, &planned) || !plans_are_least(&now, job, &planned))
         return "NOT THE LEAST";
@@ -631,6 +721,9 @@ static const char *search_job(struct chance *c, const struct ref_job *job)
         return "ANOTHER CHOICE";
     if (!page_follows(job, &written, &planned))
         return "ANOTHER PAGE";
+    wrong = waits_too_long(job, &planned);
+    if (wrong != NULL)
+        return wrong;
     count_met(job, &planned);
     return NULL;
 }
@@ -655,10 +748,13 @@ static int report(const char *what, uint64_t seed, uint64_t k, const struct ref_
 /* Prints what was met; false if something was not. */
 static bool all_met(void)
 {
+    bool waits;
+
     printf("  stops of 0: %lu, of N: %lu, in between: %lu\n", met.none, met.whole, met.between);
     printf("  discards beside an empty slot reach %lu states sooner, or alone\n", met.sooner);
     printf("  P-CON took more rounds than P-MIN in %lu, and other fetches in %lu\n", met.slower,
            met.spares);
+    waits = long_waits_met();
     printf("  ways of the search as sheets: idle before the last reference is consumed %lu, idle "
            "after it %lu, fetching after it %lu,\n    with no round charged %lu, charged as P-MIN "
            "with more rounds %lu\n", met.waited, met.idle, met.fetched, met.uncharged, met.tied);
@@ -666,8 +762,8 @@ static bool all_met(void)
     for (unsigned k = 0; k < LETTERS; k++)
         printf(" %c:%lu", letters[k], letters_met[k]);
     printf("\n");
-    return met.none > 0 && met.whole > 0 && met.between > 0 && met.sooner > 0 && met.waited > 0 &&
-           met.idle > 0 && met.fetched > 0 && met.uncharged > 0 && met.tied > 0;
+    return waits && met.none > 0 && met.whole > 0 && met.between > 0 && met.sooner > 0 &&
+           met.waited > 0 && met.idle > 0 && met.fetched > 0 && met.uncharged > 0 && met.tied > 0;
 }
 
 int main(int argc, char **argv)
@@ -681,18 +777,18 @@ int main(int argc, char **argv)
         struct ref_job job;
         const char *wrong;
 
-        draw_small_job(&c, &job);
+        draw_small_job(&c, k, &job);
         wrong = search_job(&c, &job);
         if (wrong != NULL)
             return report(wrong, seed, k, &job);
     }
     printf("%" PRIu64 " jobs searched (seed %" PRIu64 "): the plans are the least in all, with and "
            "without L3, whatever rounds follow the last reference,\n  and the same whatever is past "
-           "the stop; the choices follow the rounds charged, and the pages the sheets\n", count,
-           seed);
+           "the stop; the choices follow the rounds charged, and the pages the sheets;\n  P-CON takes at "
+           "most D times the rounds of P-MIN, and no more than its fetches\n", count, seed);
     all = all_met();
     if (!all)
-        printf("FAIL: a kind of stop or of way, or a state that is reached sooner, or only, with "
-               "discards beside an empty slot, was never met\n");
+        printf("FAIL: a kind of stop or of way, a wait of more than D - 1 times the rounds, or a state "
+               "that is reached sooner, or only, with discards beside an empty slot, was never met\n");
     return !all;
 }

@@ -43,6 +43,11 @@ searched() {
     trial reference note "$1" "$2" exhaustive "$3" 1 10000
 }
 
+# waited NAME SCRIPT - a wrong reference that the vectors of long waits must catch, by themselves.
+waited() {
+    trial reference note "$1" "$2" vectors disagrees ../vectors/waiting.txt
+}
+
 # misread NAME SCRIPT - a wrong reader of notes that the vectors must catch.
 misread() {
     trial note reference "$1" "$2" vectors disagrees "$build/notes.txt"
@@ -163,6 +168,13 @@ idle_charged="/^void ref_run/,/^}/s/^    \\}\$/&\\n    if (rule == REF_P_CON)\\n
         counts->charged++, memset(schedule, 0xff, job->disks * sizeof *schedule);/
     $all_charged"
 
+# idle_rounds CONDITION - the script that puts idle rounds into P-CON's schedule for as long as this holds of the job and of counts->charged.
+idle_rounds() {
+    printf '/^void ref_run/,/^}/s/^        play_round\\(.*/        while (rule == REF_P_CON \\&\\& %s) {\\n'\
+'            memset(schedule, 0xff, job->disks * sizeof *schedule);\\n            schedule += job->disks;\\n'\
+'            counts->charged++;\\n        }\\n&/' "$1"
+}
+
 # Scripts about the stop
 in_reading='/^unsigned ref_read_ticket/,/^}/'
 in_lookup='/^static void build_lookup/,/^}/'
@@ -233,6 +245,14 @@ mutant 'P-CON: two nevers not equal, the higher number is later' \
 mutant 'P-CON counted from the next read, not from U' \
     's/while \(from_u < l->distance\[v.u\]\)/while (false)/'
 mutant 'equal rounds give the sheet of P-MIN' 's/p->mark = choice\(p->counts\)/p->mark = p->counts[1].charged < p->counts[0].charged/'
+
+# Long waits
+waited 'P-CON never waits' "$no_wait"
+waited 'P-MIN waits too' "$all_wait"
+waited 'P-CON waits in its first 64 rounds alone' "s/^    unsigned next_read;/&\\n    unsigned played;/
+    s/^static char decide.*/static unsigned now;\\n\\n&/;s/^    survey\\(job, &r.*/    now = r->played++;\\n&/
+    s/rule == REF_P_CON \\&\\& waits/rule == REF_P_CON \\&\\& now < 64 \\&\\& waits/"
+waited 'the last nine bits of the rounds charged' "$(charged 'counts->charged \& 511')"
 
 # How positions are held
 mutant 'positions in eight bits' "/^static void build_lookup/,/^}/s/\\(uint16_t\\)/(uint8_t)/;$at_most_n"
@@ -559,9 +579,22 @@ searched 'one round less is charged' "$one_early" 'NOT THE LEAST'
 searched 'none charged only where none is written' "$none_for_none" 'OTHER COUNTS'
 searched 'rounds in which nothing is consumed not charged' "$reading_rounds" 'OTHER COUNTS'
 searched 'charged up to references past the stop' "$past_charged" 'OTHER COUNTS'
+searched 'one round more is charged, where six blocks are held at the end and one is written' \
+    "$(charged 'counts->charged + (s.held[0] + s.held[1] + s.held[2] == 6 \&\& counts->charged < written)')" 'OTHER COUNTS'
 searched 'fetches counted to the last reference only' "$no_late_fetches" 'OTHER COUNTS'
 searched 'either plan ends in an idle round' "$idle_end" 'A PLAN HAS OTHER ROUNDS'
 searched 'P-CON ends in an idle round, and all rounds written are charged' "$idle_charged" 'A PLAN HAS OTHER ROUNDS'
+
+# Idle rounds of P-CON, by which nothing else fails: its fetches stay, and the sheet of P-MIN is handed back. On one disk, and where they are more
+# than D times those of P-MIN, the rounds are more than the fetches too, which is tested last. D + 1 rounds to one of P-MIN pin the bound: D times and
+# one more, or D + 1 times, would let them through.
+searched 'P-CON begins with an idle round, on one disk' \
+    "$(idle_rounds 'job->disks == 1 \&\& counts->charged == 0')" 'OTHER ROUNDS OF P-CON ON ONE DISK'
+searched 'three rounds of four of P-CON idle, on several disks' "$(idle_rounds 'job->disks > 1 \&\& counts->charged % 4 < 3')" 'MORE THAN D TIMES'
+searched 'P-CON takes D + 1 rounds to one of P-MIN' \
+    "$(idle_rounds 'job->stop == 1 \&\& job->disks > 1 \&\& counts->charged < job->disks')" 'MORE THAN D TIMES'
+searched 'P-CON begins with an idle round, on several disks' "$(idle_rounds 'job->disks > 1 \&\& counts->charged == 0')" 'MORE ROUNDS OF P-CON THAN'
+searched 'the fifth round of P-CON idle, on several disks' "$(idle_rounds 'job->disks > 1 \&\& counts->charged == 4')" 'MORE ROUNDS OF P-CON THAN'
 
 # Choices between the sheets of both plans, and of a way of the search, that do not follow the rounds charged
 searched 'chosen by the rounds written' "$by_written" 'ANOTHER CHOICE'

@@ -1,4 +1,4 @@
-/* reference.h - the planner of document 01 with requests L1 to L7, written from the papers alone.
+/* reference.h - the planner of document 01 with requests L1 to L8, written from the papers alone.
  *
  * A reference to compare others with: tables and plain passes over the blocks, nothing clever.
  * Every answer "number" is 0, or the number of the refusal in documents 01 and 02. Notes, of request
@@ -78,7 +78,7 @@ size_t ref_write_sheet(const struct ref_action *schedule, unsigned rounds, unsig
                        uint8_t *buf, size_t room);
 
 /* The schedule of one rule up to the job's stop; room for stop x disks actions. All its rounds are
- * charged. */
+ * charged; those of P-CON are at most D times those of P-MIN (request L8). */
 void ref_run(const struct ref_job *job, enum ref_rule rule, struct ref_action *schedule,
              struct ref_counts *counts);
 

@@ -8,8 +8,8 @@ use lib.ListN.{length, getD, set, length-set}
 use Rattle.model.specs.Playing.{isResident}
 use Rattle.lookup.specs.Desk.{row, withCell, nexts, laters, helds, looks, ofDisk}
 use Rattle.lookup.proofs.Rows.{row-other, row-same}
-use Rattle.choosing.specs.Moving.{Ahead, moveFrom, movedOn}
-use Rattle.choosing.proofs.PointerRight.{Moved, moved-row, moved-laters, moved-looks, moved-rows, moved-moved, moved-stops}
+use Rattle.moving.specs.Moving.{Ahead, moveFrom, movedOn}
+use Rattle.moving.proofs.PointerRight.{Moved, moved-row, moved-laters, moved-looks, moved-rows, moved-moved, moved-stops}
 use Rattle.choosing.specs.declared.Choice.{Choice}
 use Rattle.acting.specs.Acting.{fetchNoted, discardNoted, reasonNoted, column, noted, takenIn}
 

@@ -5,7 +5,7 @@ use Prim.Native.Nat.{ℕ, _<_}
 use Rattle.model.specs.Page.{reason}
 use Rattle.lookup.specs.Desk.{HELD, cell, withCell, helds}
 use Rattle.choosing.specs.Choosing.{meaning}
-use Rattle.choosing.specs.Moving.{movedOn}
+use Rattle.moving.specs.Moving.{movedOn}
 use Rattle.writing.specs.Writing.{FETCHED, DISCARDED, REASON}
 use Rattle.choosing.specs.declared.Choice.{Choice}
 use Rattle.choosing.specs.declared.Choice.the-variants.{IntoEmpty, OverMinBlock, MinBlockSooner, Waits, NoneMissing}

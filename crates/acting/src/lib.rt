@@ -8,7 +8,7 @@ ghost use Prim.Native.Nat.{_≤_, _<_};
 ghost use lib.ListN.{length, getD};
 ghost use Rattle.bits.specs.Bits.{Below};
 ghost use Rattle.lookup.specs.Desk.{helds, looks, ofDisk};
-ghost use Rattle.choosing.specs.Moving.{Ahead};
+ghost use Rattle.moving.specs.Moving.{Ahead};
 ghost use Rattle.acting.specs.Acting.{Small, column, noted, takenIn};
 
 // Writes a disk's column of a round's actions.
@@ -56,5 +56,5 @@ pub fn take_in(
     ensures { λ _. ⌜ now (desk .exit) ≡ takenIn (now (refs .entry)) (now (resident .entry)) (now (steps .entry)) d u place (now (desk .entry)) ⌝ }
 {
     lookup::put(desk, lookup::HELD, place, u);
-    choosing::moving::move_on(d, refs, resident, steps, desk);
+    moving::move_on(d, refs, resident, steps, desk);
 }

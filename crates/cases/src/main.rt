@@ -252,13 +252,20 @@ fn within(n: usize, lent: &[u8]) -> usize
     lent.len()
 }
 
+// A filled buffer for a sheet, as long as the longest.
+fn sheet_buffer() -> [u8; 40962]
+    ensures { λ r. ⌜ 40962 ≡ length r ⌝ }
+{
+    [FILL; 40962]
+}
+
 // A line `plan`.
 fn plan_line() {
     let mut ticket = io::buffer();
     let n = read_bytes(&mut ticket);
     let stop = read_number();
-    let mut short = [FILL; 40962];
-    let mut sparing = [FILL; 40962];
+    let mut short = sheet_buffer();
+    let mut sparing = sheet_buffer();
     let a = within(read_number(), &short);
     let b = within(read_number(), &sparing);
     write(b" =");
@@ -277,8 +284,8 @@ fn page_line() {
     let mut ticket = io::buffer();
     let n = read_bytes(&mut ticket);
     let stop = read_number();
-    let mut short = [FILL; 40962];
-    let mut sparing = [FILL; 40962];
+    let mut short = sheet_buffer();
+    let mut sparing = sheet_buffer();
     let mut page = page_buffer();
     let a = within(read_number(), &short);
     let b = within(read_number(), &sparing);

@@ -3,7 +3,7 @@
 use mathlib.Core.Path.{_≡_, refl, sym, ap, _∙_, subst, subst₃}
 use mathlib.Core.Bool.{Bool, true, false, cond, _&&_}
 use mathlib.Core.List.{List}
-use Prim.Native.Nat.{ℕ, zero, suc, _+_, _-_, _*_, _≤_, _<_}
+use Prim.Native.Nat.{ℕ, suc, _+_, _-_, _*_, _≤_, _<_}
 use native.Mathlib.Numerals.{add-one}
 use native.Mathlib.Omega.{arith}
 use lib.Dec.{ltb, leb, eqb}
@@ -12,7 +12,7 @@ use lib.Seq.{getD-set-same, getD-set-other, drop-cons}
 use borrow.Author.Tests.{eqb-true, eqb-false, lt-ltb, le-ltb}
 use Rattle.bits.specs.Bits.{bits}
 use Rattle.bits.specs.Reading.{Answer, refused, got}
-use Rattle.bits.proofs.Logic.{by-test}
+use Rattle.bits.proofs.Logic.{by-test, getD-same}
 use Rattle.bits.proofs.Bits.{bits-are, drop-bits}
 use Rattle.job.specs.Meaning.{jobOf, Fits}
 use Rattle.job.specs.declared.Job.{Job as Stored}
@@ -128,11 +128,6 @@ cond-same : (t : Bool) (k : ℕ) → cond t k k ≡ k
 cond-same true k = refl
 cond-same false k = refl
 
-zeros-at : (n e : ℕ) → _≡_ {A = ℕ} (getD (replicate n 0) e 0) 0
-zeros-at zero e = refl
-zeros-at (suc n) zero = refl
-zeros-at (suc n) (suc e) = zeros-at n e
-
 module _ {c : Stored} (h : Fits c) {s : List ℕ} {rounds : ℕ} where
   -- at the start
   pub round-first : BeforeRound c s rounds emptyBuffers (replicate 8 0) 12 0 0
@@ -145,7 +140,7 @@ module _ {c : Stored} (h : Fits c) {s : List ℕ} {rounds : ℕ} where
           holds = holds-start (jobOf c) (let e = disks-are c h in let f = h .fewDisks in omega (arith, e, f));
           near = omega arith;
           long = refl;
-          few = λ e. (let z = zeros-at 8 e in omega (arith, z));
+          few = λ e. (let z = getD-same {A = ℕ} 8 e 0 in omega (arith, z));
         };
         answer = ap (λ (n : ℕ). roundsFrom (jobOf c) n (start (jobOf c)) 0 (replicate 8 0) (drop 12 (bits s))) all;
       }

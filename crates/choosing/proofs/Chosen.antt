@@ -24,7 +24,7 @@ use Rattle.choosing.specs.declared.Rule.{Rule}
 use Rattle.choosing.specs.declared.Rule.the-variants.{Short, Sparing}
 use Rattle.choosing.specs.declared.Choice.{Choice}
 use Rattle.choosing.specs.declared.Choice.the-variants.{IntoEmpty, OverMinBlock, MinBlockSooner, Waits, NoneMissing}
-use Rattle.choosing.proofs.Right.{DiskRight}
+use Rattle.lookup.proofs.Right.{DiskRight}
 use Rattle.choosing.proofs.Scanning.{last-within, last-most, beyond-none, beyond-some}
 
 -- What is chosen, and the tests that led to it. The last of the residents is referenced at `far`.

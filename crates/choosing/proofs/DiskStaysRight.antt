@@ -17,7 +17,7 @@ use Rattle.model.specs.Valid.{Block, Legal}
 use Rattle.model.proofs.Counting.{count-same}
 use Rattle.model.proofs.Buffers.{entered, replaced-in, replaced-out, fetch-kept, replace-kept, act-elsewhere, apart, load-own}
 use Rattle.model.proofs.Distances.{distance-mono}
-use Rattle.choosing.proofs.Right.{Listed, Pointer, DiskRight}
+use Rattle.lookup.proofs.Right.{Listed, Pointer, DiskRight}
 
 -- one place of a list of residents is written
 listed-put : (j : Job) (marks : List Bool) (d : ℕ) (residents : List ℕ) (count m u : ℕ) → m < count → d * 64 + m < length residents

@@ -1,2 +1,1 @@
 pub mod Choosing
-pub mod Moving

@@ -1,6 +1,4 @@
-// What a rule chooses for one disk, from its tables; and the disk's pointer to its first missing reference.
-pub mod moving;
-
+// What a rule chooses for one disk, from its tables.
 use lookup::Desk;
 ghost use mathlib.Core.Path.{_≡_};
 ghost use Prim.Native.Nat.{_+_, _-_, _≤_, _<_};

@@ -16,7 +16,7 @@ use Rattle.model.specs.Rules.{Rule as JobRule}
 use Rattle.model.specs.Plans.{each, choices, planFrom}
 use Rattle.model.specs.Page.{reason, reasonsOf}
 use Rattle.model.specs.Valid.{Ready}
-use Rattle.model.proofs.Plans.{actionsOf, plan-round}
+use Rattle.model.proofs.Plans.{each-cong, actionsOf, plan-round}
 use Rattle.model.proofs.Rounds.{ready-after}
 use Rattle.lookup.specs.Desk.{cell, nexts, laters, helds, looks, withCell, ofBlock}
 use Rattle.lookup.proofs.Laws.{pass-distance}
@@ -25,7 +25,7 @@ use Rattle.playing.specs.Playing.{consumeOne}
 use Rattle.playing.proofs.Laws.{holds-same, holds-consume}
 use Rattle.choosing.specs.Choosing.{ruleOf}
 use Rattle.choosing.specs.declared.Rule.{Rule}
-use Rattle.choosing.proofs.Right.{Forward}
+use Rattle.lookup.proofs.Right.{Forward}
 use Rattle.choosing.proofs.DiskStaysRight.{disk-read}
 use Rattle.writing.specs.Writing.{actionIn, actionsIn, reasonsIn}
 use Rattle.driving.specs.Driving.{PlanInput, PlanState, readNext, canRead, readFrom, allActed, roundFrom, drivenFrom, reasonsFrom}
@@ -33,12 +33,6 @@ use Rattle.driving.proofs.Input.{inputOf}
 use Rattle.driving.proofs.TurnsRight.{lawful-of, midState, many, StandsFor, AfterTurns, at-disk}
 
 -- lists made number by number
-each-cong : {A : Type 0} (f g : ℕ → A) (i n : ℕ) → ((e : ℕ) → i ≤ e → e < i + n → f e ≡ g e) → each f i n ≡ each g i n
-unfolding each
-each-cong f g i zero h = refl
-each-cong f g i (suc n) h =
-    ap₂ (λ (a : _) (l : List _). a ∷ l) (h i (omega arith) (omega arith)) (each-cong f g (suc i) n (λ e p q. h e (omega arith) (omega arith)))
-
 map-each : {A B : Type 0} (h : A → B) (f : ℕ → A) (i n : ℕ) → map h (each f i n) ≡ each (λ e. h (f e)) i n
 unfolding each
 map-each h f i zero = refl

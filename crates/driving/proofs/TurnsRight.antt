@@ -29,10 +29,10 @@ use Rattle.choosing.specs.declared.Rule.{Rule}
 use Rattle.choosing.specs.declared.Rule.the-variants.{Short, Sparing}
 use Rattle.choosing.specs.declared.Choice.{Choice}
 use Rattle.choosing.specs.declared.Choice.the-variants.{IntoEmpty, OverMinBlock, MinBlockSooner, Waits, NoneMissing}
-use Rattle.choosing.proofs.Right.{Listed, Pointer, DiskRight, Right, Forward}
+use Rattle.lookup.proofs.Right.{Listed, Pointer, DiskRight, Right, Forward}
 use Rattle.choosing.proofs.DiskStaysRight.{SameOn, disk-same, disk-elsewhere, load-same, pointed, pointer-into}
 use Rattle.choosing.proofs.DiskStaysRight.{pointer-over, listed-into, listed-over, places-elsewhere}
-use Rattle.choosing.proofs.PointerRight.{Moved, forward-ahead}
+use Rattle.moving.proofs.PointerRight.{Moved, forward-ahead}
 use Rattle.choosing.proofs.Chosen.{Chooses, choice-is, choice-placed, Placed}
 use Rattle.acting.specs.Acting.{noted, takenIn, column}
 use Rattle.acting.proofs.AfterChoice.{rows-after, column-fetched, column-discarded, column-reason, column-rows}

@@ -12,9 +12,10 @@ use Rattle.bits.specs.Fields.{putBits, clearFrom}
 use Rattle.bits.proofs.Logic.{by-test, Each}
 use Rattle.bits.proofs.Bits.{Bits, append-bits, length-bytes, length-digits}
 use Rattle.bits.proofs.Fields.{put-packed, clear-packed, bytes-none}
-use Rattle.model.specs.Playing.{Action, idle, fetch, replace, Schedule, fetched, total, fetches}
+use Rattle.model.specs.Playing.{Action, idle, Schedule, fetched, total, fetches}
 use Rattle.model.specs.Plans.{each}
 use Rattle.model.specs.Sheet.{roundBits, roundsBits, sheetBits}
+use Rattle.model.proofs.Charged.{total-after, total-most}
 use Rattle.model.proofs.Longest.{length-rounds}
 use Rattle.model.proofs.Plans.{length-each}
 use Rattle.model.proofs.Bytes.{getD-each, rounds-bits}
@@ -34,25 +35,10 @@ rounds-more [] a = append-nil (roundBits a)
 rounds-more (b ∷ done) a = ap (λ (l : List ℕ). roundBits b ++ l) (rounds-more done a)
     ∙ sym (append-assoc (roundBits b) (roundsBits done) (roundBits a))
 
-total-more : (d : ℕ) (done : Schedule) (a : List Action) → total fetched d (done ++ (a ∷ [])) ≡ total fetched d done + fetched (getD a d idle)
-unfolding total
-total-more d [] a = omega arith
-total-more d (b ∷ done) a = let more = total-more d done a in omega (arith, more)
-
 each-more : (P : List Action → Type 0) (done : Schedule) (a : List Action) → Each P done → P a → Each P (done ++ (a ∷ []))
 unfolding Each
 each-more P [] a h p = (p, tt)
 each-more P (b ∷ done) a h p = (h .0, each-more P done a (h .1) p)
-
-fetched-one : (a : Action) → fetched a ≤ 1
-fetched-one idle = omega arith
-fetched-one (fetch x) = omega arith
-fetched-one (replace x z) = omega arith
-
-total-few : (d : ℕ) (done : Schedule) → total fetched d done ≤ length done
-unfolding total
-total-few d [] = omega arith
-total-few d (a ∷ done) = let more = total-few d done in let one = fetched-one (getD a d idle) in omega (arith, more, one)
 
 zeros : (n : ℕ) → Bits (replicate n 0)
 unfolding Bits Each
@@ -111,7 +97,7 @@ module _ {done : Schedule} {counts sheet : List ℕ} {played at : ℕ} (w : Writ
   written-few few d l =
       let long = long-counts in
       let c = count-at d (omega (arith, long)) in
-      let t = total-few d done in
+      let t = total-most d done in
       let m = w .many in
       omega (arith, c, t, m, few)
 
@@ -129,9 +115,10 @@ module _ {done : Schedule} {counts sheet : List ℕ} {played at : ℕ} (w : Writ
     action-at d l = getD-each (actionIn acts) 0 disks d idle l ∙ ap (actionIn acts) (let e : 0 + d ≡ d = omega arith in e)
 
     count-more : (d : ℕ) → d < 8 → getD (tallied counts acts disks) d 0 ≡ total fetched d (done ++ (actions ∷ []))
+    unfolding total
     count-more d l =
         let was = count-at d l in
-        let more = total-more d done actions in
+        let more = total-after fetched d done (actions ∷ []) in
         let long = long-counts in
         by-test (ltb d disks)
         (λ y. let inside = ltb-true d disks y in

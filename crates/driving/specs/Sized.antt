@@ -4,7 +4,7 @@ use Prim.Native.Nat.{ℕ, suc, _≤_, _<_}
 use lib.ListN.{length, getD}
 use Rattle.bits.specs.Bits.{Below}
 use Rattle.lookup.specs.Desk.{row, nexts, helds, looks, ofBlock, ofDisk}
-use Rattle.choosing.specs.Moving.{Ahead}
+use Rattle.moving.specs.Moving.{Ahead}
 use Rattle.writing.specs.Writing.{FETCHED, DISCARDED}
 use Rattle.driving.specs.Driving.{PlanInput, PlanState}
 

@@ -1,26 +1,17 @@
 -- Every reference of a note is a block, 0 to 511. Assumes nothing.
 use mathlib.Core.Path.{_≡_}
-use mathlib.Core.List.{List, [], _∷_, _++_}
-use Prim.Native.Nat.{ℕ, zero, suc, _≤_, _<_}
+use mathlib.Core.List.{List, [], _∷_}
+use Prim.Native.Nat.{ℕ, _≤_, _<_}
 use lib.ListN.{length, getD}
 use Rattle.bits.specs.Reading.{given}
 use Rattle.bits.proofs.Logic.{Each, each-at}
-use Rattle.grammar.specs.Note.{Part, block, inside, Item, once, times, Side, first, next, Note, alone, mixed, ProperPart, ProperItem, ProperSide, Proper, repeated, inTurn, partRefs, itemRefs, sideRefs, noteRefs}
+use Rattle.grammar.specs.Note.{Part, block, inside, Item, once, times, Side, first, next, Note, alone, mixed, ProperPart, ProperItem, ProperSide, Proper, inTurn, partRefs, itemRefs, sideRefs, noteRefs}
 use Rattle.grammar.specs.Reading.{noteAnswer}
+use Rattle.grammar.proofs.Lists.{each-both, each-repeated}
 use Rattle.grammar.proofs.Gives.{reads-exactly}
 
 abbrev IsBlock : ℕ → Type 0
 IsBlock b = b ≤ 511
-
-both-blocks : (a b : List ℕ) → Each IsBlock a → Each IsBlock b → Each IsBlock (a ++ b)
-unfolding Each
-both-blocks [] b p q = q
-both-blocks (x ∷ a) b p q = (p .0, both-blocks a b (p .1) q)
-
-repeated-blocks : (k : ℕ) (l : List ℕ) → Each IsBlock l → Each IsBlock (repeated k l)
-unfolding repeated Each
-repeated-blocks zero l h = tt
-repeated-blocks (suc k) l h = both-blocks l (repeated k l) h (repeated-blocks k l h)
 
 in-turn-blocks : (left right : List ℕ) → Each IsBlock left → Each IsBlock right → Each IsBlock (inTurn left right)
 unfolding inTurn Each
@@ -37,11 +28,11 @@ mutual
 
   item-blocks : (i : Item) → ProperItem i → Each IsBlock (itemRefs i)
   item-blocks (once p) h = part-blocks p h
-  item-blocks (times p k) h = repeated-blocks k (partRefs p) (part-blocks p (h .0))
+  item-blocks (times p k) h = each-repeated IsBlock k (partRefs p) (part-blocks p (h .0))
 
   side-blocks : (s : Side) → ProperSide s → Each IsBlock (sideRefs s)
   side-blocks (first i) h = item-blocks i h
-  side-blocks (next s i) h = both-blocks (sideRefs s) (itemRefs i) (side-blocks s (h .0)) (item-blocks i (h .1))
+  side-blocks (next s i) h = each-both IsBlock (sideRefs s) (itemRefs i) (side-blocks s (h .0)) (item-blocks i (h .1))
 
   note-blocks : (n : Note) → Proper n → Each IsBlock (noteRefs n)
   note-blocks (alone s) h = side-blocks s h

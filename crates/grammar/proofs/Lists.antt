@@ -6,6 +6,7 @@ use native.Mathlib.Nat.{suc-mul}
 use native.Mathlib.Omega.{arith}
 use lib.ListN.{length, getD, length-append, List·getD-append}
 use lib.Seq.{getD-append-add}
+use Rattle.bits.proofs.Logic.{Each}
 use Rattle.grammar.specs.Note.{repeated, inTurn}
 
 pub repeated-length : (k : ℕ) (l : List ℕ) → length (repeated k l) ≡ k * length l
@@ -15,6 +16,25 @@ repeated-length (suc k) l =
     let both = length-append l (repeated k l) in
     let more = suc-mul k (length l) in
     omega (arith, repeated-length k l)
+
+-- what is true of all references is true of them one after the other, and repeated
+pub each-both : (Q : ℕ → Type 0) (a b : List ℕ) → Each Q a → Each Q b → Each Q (a ++ b)
+unfolding Each
+each-both Q [] b p q = q
+each-both Q (x ∷ a) b p q = (p .0, each-both Q a b (p .1) q)
+
+pub each-repeated : (Q : ℕ → Type 0) (k : ℕ) (l : List ℕ) → Each Q l → Each Q (repeated k l)
+unfolding repeated Each
+each-repeated Q zero l h = tt
+each-repeated Q (suc k) l h = each-both Q l (repeated k l) h (each-repeated Q k l h)
+
+-- so many times, and more of them
+pub repeated-more : (k m : ℕ) (l : List ℕ) → repeated (k + m) l ≡ repeated k l ++ repeated m l
+unfolding repeated
+repeated-more zero m l = ap (λ (n : ℕ). repeated n l) (let e : 0 + m ≡ m = omega arith in e)
+repeated-more (suc k) m l =
+    ap (λ (n : ℕ). repeated n l) (let e : suc k + m ≡ suc (k + m) = omega arith in e) ∙ ap (λ (r : List ℕ). l ++ r) (repeated-more k m l)
+    ∙ sym (append-assoc l (repeated k l) (repeated m l))
 
 -- one time more at the end is one time more at the start
 pub repeated-last : (k : ℕ) (l : List ℕ) → repeated k l ++ l ≡ repeated (suc k) l

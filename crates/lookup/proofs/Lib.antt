@@ -1,3 +1,4 @@
 mod Backward
 pub mod Laws
 pub mod Rows
+pub mod Right

@@ -6,6 +6,7 @@ use mathlib.Core.Bool.{true, false}
 use mathlib.Core.List.{List, [], _∷_, _++_, map}
 use Prim.Native.Nat.{ℕ, zero, suc, _/_, _%_, _^_}
 use Prim.Native.String.{String}
+use native.Mathlib.Omega.{arith}
 use Rattle.bits.specs.Reading.{Answer, given, refused, bind, _>>=_, _>>_, give, field, refuseIf, many, isClosed, closing, answer, readAll}
 use Rattle.model.specs.Job.{Job, upTo}
 use Rattle.model.specs.Ticket.{slotsField, diskField, refField, ticketReader, ticketOf}
@@ -14,7 +15,7 @@ use Rattle.model.specs.Text.{text}
 use Rattle.model.specs.Page.{ended}
 use Rattle.model.specs.Sheet.{discardReader, fetchReader, actionReader, roundReader, roundsReader, sheetReader, scheduleRead}
 use Rattle.model.specs.Valid.{discardsFullFrom}
-use Rattle.model.specs.Calls.{stopAt, jobUpTo, referencesOf, Counts, Which, isFirst, isSecond, Mark, isShort, isSparing, Planned, planAnswer, pageAnswer, checkAnswer, ChosenSheet, chooseAnswer, countsNumbers, planningNumbers, choiceNumbers, countsWritten}
+use Rattle.model.specs.Calls.{stopAt, jobUpTo, referencesOf, Counts, SparingWithin, Which, isFirst, isSecond, Mark, isShort, isSparing, Planned, planAnswer, pageAnswer, checkAnswer, ChosenSheet, chooseAnswer, countsNumbers, planningNumbers, choiceNumbers, countsWritten}
 
 -- The k bytes whose hexadecimal digits are those of v: `hex 2 0x0018` is 00 18.
 unfoldable pub hex : ℕ → ℕ → List ℕ
@@ -142,9 +143,39 @@ pub in-full : (let j : Job = record { slots = 1 ∷ []; blockDisks = 0 ∷ 0 ∷
 unfolding discardsFullFrom start noneResident load
 in-full = refl
 
--- one disk, one slot, 101 blocks, string 100 10 100 10 .. of ten references
+-- A job of Theorem 8 (document 000): two disks with two slots and four blocks each, and sixteen references four times.
+abbrev ticketWaiting : List ℕ
+ticketWaiting = hex 80 0x2040808000249040018000200038100a04008080602028180e06018000200038100a04008080602028180e06018000200038100a04008080602028180e06018000200038100a04008080602028180e06
+
+abbrev pub jobWaiting : Job
+jobWaiting = record {
+  slots = 2 ∷ 2 ∷ [];
+  blockDisks = 0 ∷ 0 ∷ 0 ∷ 0 ∷ 1 ∷ 1 ∷ 1 ∷ 1 ∷ [];
+  refs = let l : List ℕ = 3 ∷ 0 ∷ 1 ∷ 0 ∷ 7 ∷ 4 ∷ 5 ∷ 4 ∷ 1 ∷ 2 ∷ 3 ∷ 2 ∷ 5 ∷ 6 ∷ 7 ∷ 6 ∷ [] in l ++ l ++ l ++ l;
+}
+
+abbrev countsShort : Counts
+countsShort = counts 18 17 17
+
+abbrev countsWaiting : Counts
+countsWaiting = counts 30 17 17
+
+-- Request L8, of the two plans in that ticket's row below: 30 rounds are within D times 18, and would not be within D − 1 times;
+waiting-within : SparingWithin jobWaiting countsShort countsWaiting
+unfolding SparingWithin
+waiting-within = omega arith
+
+-- 36 would be too, and 37 would not.
+waiting-most : SparingWithin jobWaiting countsShort (counts 36 17 17) × (SparingWithin jobWaiting countsShort (counts 37 17 17) → ⊥)
+unfolding SparingWithin
+waiting-most = (omega arith, λ h. omega (arith, h))
+
+-- one disk, one slot, two blocks, string 0 1 0 1 .. of ten references; and one with 101 blocks, string 100 10
 abbrev ticketTen : List ℕ
-ticketTen = hex 54 0x10232800000000000000000000000000000000000000000000000000000000000000000000000000000a32028c80a32028c80a320280
+ticketTen = hex 17 0x1020100014000080002000080002000080
+
+abbrev ticketHundred : List ℕ
+ticketHundred = hex 45 0x102328000000000000000000000000000000000000000000000000000000000000000000000000000002320280
 
 -- slots 2 and 1, blocks 0 to 2 and 3 to 5, string 3 4 5 0 1 2 1 0
 abbrev ticketBoth : List ℕ
@@ -211,16 +242,16 @@ linesBoth =
 
 abbrev linesTen : List String
 linesTen =
-    "   1 0 100 --- E" ∷
-    "   2 0  10 100 M" ∷
-    "   3 0 100  10 M" ∷
-    "   4 0  10 100 M" ∷
-    "   5 0 100  10 M" ∷
-    "   6 0  10 100 M" ∷
-    "   7 0 100  10 M" ∷
-    "   8 0  10 100 M" ∷
-    "   9 0 100  10 M" ∷
-    "  10 0  10 100 M" ∷
+    "   1 0   0 --- E" ∷
+    "   2 0   1   0 M" ∷
+    "   3 0   0   1 M" ∷
+    "   4 0   1   0 M" ∷
+    "   5 0   0   1 M" ∷
+    "   6 0   1   0 M" ∷
+    "   7 0   0   1 M" ∷
+    "   8 0   1   0 M" ∷
+    "   9 0   0   1 M" ∷
+    "  10 0   1   0 M" ∷
     []
 
 -- Where two tests that follow each other can both refuse, a row says which one does. These cannot: 1 inside the last reference and 8; 10 and the end
@@ -397,12 +428,13 @@ table =
     row (choose ticketA (hex 3 0x001801) (hex 3 0x001800)) (number 16) refl ∷
     row (choose ticketA (hex 3 0x001800) (hex 3 0x001801)) (number 16) refl ∷
     -- Request L2: the page of the plan handed back, in a buffer of its exact length. B's, of no rounds, is the legend alone; F's, of the sparing
-    -- plan, has all five letters; G's is of the short plan: "Round 4, disk 0 of case G reads `   4 0   3   2 M`". The last has numbers of more
+    -- plan, has all five letters; G's is of the short plan: "Round 4, disk 0 of case G reads `   4 0   3   2 M`". The last two have numbers of more
     -- digits.
     row (page ticketB 2 2 85) (pageWith []) refl ∷
     row (page ticketF 14 11 221) (pageWith linesF) refl ∷
     row (page ticketG 23 23 289) (pageWith linesG) refl ∷
     row (page ticketTen 26 26 255) (pageWith linesTen) refl ∷
+    row (page ticketHundred 6 6 119) (pageWith ("   1 0 100 --- E" ∷ "   2 0  10 100 M" ∷ [])) refl ∷
     -- "W idle because the sparing plan waits though S does not hold": in round 3 the sparing plan of disk 0 would wait too, and S is shown.
     row (page ticketBoth 40962 40962 278613) (pageWith linesBoth) refl ∷
     -- "19, the page does not fit, tested after 18": one byte less for the page. 17, 18 and the ticket's number come first, with no room for the page.
@@ -466,6 +498,9 @@ table =
     row (choose ticketA (hex 3 0x001800) (hex 3 0x002800)) (chose isSecond 3) refl ∷
     row (choose ticketG (hex 23 0x0078010220140a809032038090140703c0c81a0780e020) (hex 24 0x0098010220140a8090320380a078120280e0481e03808000)) (chose isSecond 24) refl ∷
     row (choose ticketG (hex 24 0x0098010220140a8090320380a078120280e0481e03808000) (hex 23 0x0088010220140a809032038090140703c0c81a0780e020)) (chose isFirst 24) refl ∷
+    -- Request L8: the sparing plan takes more rounds than the short one, by more than D − 1 = 1 times, and saves no fetch by it.
+    row (read ticketWaiting) (job jobWaiting) refl ∷
+    row (plan ticketWaiting) (planned isShort 83 countsShort countsWaiting (hex 83 0x01280d03a00408806034050040b03c0700c0d024010140f02c0301c09034050040b03c0700c0d024010140f02c0301c09034050040b03c0700c0d024010140f02c0301c09034050040b03c0700c0d022078140) (hex 86 0x01e80d03a004088060320581e0280501c0040d02a078120080d00c0440903a0581a0280501c0040d02a078120080d00c0440903a0581a0280501c0040d02a078120080d00c0480a008120740b0340700c0d022078140)) refl ∷
     -- From C: "in 16 bits each and most significant byte first: for planning the mark (0 short, 1 sparing), the length of the part, then for the
     -- short and for the sparing plan the rounds and eight fetch counts; for the check the rounds and eight fetch counts", and by L1 "0 (first) or 1
     -- (second) and that sheet's length". "As far as that slice reaches", and no byte more; "a refusal writes nothing there".

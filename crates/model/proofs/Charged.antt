@@ -6,11 +6,11 @@ use mathlib.Core.List.{[], _∷_, _++_, map}
 use Prim.Native.Nat.{ℕ, zero, suc, _+_, _≤_}
 use native.Mathlib.Omega.{arith}
 use lib.Dec.{ltb}
-use lib.ListN.{length, take, length-map}
+use lib.ListN.{length, getD, take, length-map}
 use borrow.Author.Tests.{ltb-true, ltb-false}
 use Rattle.bits.proofs.Logic.{by-test}
 use Rattle.model.specs.Job.{Job, refCount}
-use Rattle.model.specs.Playing.{Action, Schedule, State, start, playRound, play, chargedFrom, charged, total}
+use Rattle.model.specs.Playing.{Action, idle, fetch, replace, Schedule, State, start, playRound, play, chargedFrom, charged, fetched, total}
 use Rattle.model.specs.Rules.{action, Rule}
 use Rattle.model.specs.Plans.{choices, planFrom, planOf, scheduleOf}
 use Rattle.model.specs.Valid.{ValidFrom}
@@ -95,3 +95,14 @@ pub total-after : (of : Action → ℕ) (d : ℕ) (schedule more : Schedule) →
 unfolding total
 total-after of d [] more = omega arith
 total-after of d (actions ∷ schedule) more = let ih = total-after of d schedule more in omega (arith, ih)
+
+-- at most once in a round
+fetched-most : (a : Action) → fetched a ≤ 1
+fetched-most idle = omega arith
+fetched-most (fetch x) = omega arith
+fetched-most (replace x z) = omega arith
+
+pub total-most : (d : ℕ) (schedule : Schedule) → total fetched d schedule ≤ length schedule
+unfolding total
+total-most d [] = omega arith
+total-most d (actions ∷ more) = let ih = total-most d more in let one = fetched-most (getD actions d idle) in omega (arith, ih, one)

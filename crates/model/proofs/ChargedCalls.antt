@@ -6,10 +6,10 @@ use mathlib.Core.List.{List, [], _∷_, _++_}
 use Prim.Native.Nat.{ℕ, zero, suc, _+_, _≤_, _<_}
 use native.Mathlib.Omega.{arith}
 use lib.Dec.{ltb}
-use lib.ListN.{length, getD, take, replicate, length-append, length-replicate}
+use lib.ListN.{length, take, replicate, length-append, length-replicate}
 use borrow.Author.Tests.{ltb-true, ltb-false}
 use Rattle.bits.specs.Reading.{given}
-use Rattle.bits.proofs.Logic.{by-test, and-true}
+use Rattle.bits.proofs.Logic.{by-test, and-true, getD-same}
 use Rattle.model.specs.Job.{Job, diskCount, refCount}
 use Rattle.model.specs.Playing.{Action, idle, Schedule, State, start, act, actAll, playRound, play, load, charged, fetched, total, fetches}
 use Rattle.model.specs.Rules.{short, sparing}
@@ -93,14 +93,9 @@ module _ (j : Job) where
   unfolding total
   idle-total zero d = refl
   idle-total (suc n) d =
-      let here = ap fetched (idle-at (diskCount j) d) in
+      let here = ap fetched (getD-same (diskCount j) d idle) in
       let ih = idle-total n d in
       omega (arith, here, ih)
-    where
-      idle-at : (m d : ℕ) → getD (replicate m idle) d idle ≡ idle
-      idle-at zero d = refl
-      idle-at (suc m) zero = refl
-      idle-at (suc m) (suc d) = idle-at m d
 
   idle-counts : (n : ℕ) (schedule : Schedule) → ValidFrom j (start j) schedule → countsOf j (schedule ++ replicate n (idleRound j)) ≡ countsOf j schedule
   unfolding countsOf charged fetches

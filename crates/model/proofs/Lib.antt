@@ -21,6 +21,7 @@ pub mod Sparing
 pub mod Written
 pub mod Validity
 pub mod Bytes
+mod Waiting
 mod ChargedCalls
 mod Stricter
 pub mod TwoSheets

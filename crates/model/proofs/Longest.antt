@@ -1,20 +1,20 @@
 -- Document 01, "Ticket and sheet": "The longest ticket has 2,507 bytes, the longest sheet 40,962." Assumes nothing.
-use mathlib.Core.Path.{_≡_, refl, sym, ap, _∙_}
+use mathlib.Core.Path.{_≡_, sym, ap, _∙_}
 use mathlib.Core.List.{List, [], _∷_, _++_}
 use Prim.Native.Nat.{ℕ, zero, suc, _+_, _*_, _≤_, _<_, _^_}
 use native.Mathlib.Nat.{add-comm, zero-mul, suc-mul}
 use native.Mathlib.Omega.{arith}
-use lib.ListN.{length, replicate, length-append, length-replicate}
+use lib.ListN.{length, replicate, length-append, length-replicate, getD-replicate}
 use Rattle.bits.specs.Bits.{digits, bytesFor, pack}
-use Rattle.bits.specs.Reading.{given, bind, _>>=_, _>>_, give, field, refuseIf, many, isClosed, closing, answer, readAll}
-use Rattle.bits.proofs.Logic.{Each}
+use Rattle.bits.specs.Reading.{given}
+use Rattle.bits.proofs.Logic.{Each, getD-same}
 use Rattle.bits.proofs.Bits.{length-digits, length-bits, length-pack}
-use Rattle.model.specs.Job.{Job, diskCount}
-use Rattle.model.specs.Ticket.{ticketBits, slotsField, diskField, refField, ticketReader, ticketOf}
+use Rattle.model.specs.Job.{Sound, Job, diskCount}
+use Rattle.model.specs.Ticket.{ticketBits, ticketOf}
 use Rattle.model.specs.Playing.{Action, idle, fetch, replace, Schedule, State, start}
 use Rattle.model.specs.Sheet.{actionBits, roundBits, roundsBits, sheetBits, sheetOf}
 use Rattle.model.specs.Calls.{Counts, checkAnswer}
-use Rattle.model.proofs.Ticket.{accepted-valid, length-ticket}
+use Rattle.model.proofs.Ticket.{accepted-valid, sound-accepted, length-ticket}
 use Rattle.model.proofs.Sheets.{Allowed}
 use Rattle.model.proofs.Check.{passed}
 
@@ -33,14 +33,35 @@ ticket-length t j e =
     omega (arith, l, w, b, z, few, d, k, n)
 
 -- eight disks with a slot each, 512 blocks on disk 0, and 2,048 references to block 0
-unfoldable pub longTicket : List ℕ
-unfolding pack digits
-longTicket = pack (digits 4 8 ++ digits 56 0x02040810204081 ++ digits 10 512 ++ replicate 1536 0 ++ digits 12 2048 ++ replicate 18432 0)
+abbrev longJob : Job
+longJob = record { slots = replicate 8 1; blockDisks = replicate 512 0; refs = replicate 2048 0 }
 
--- and one is that long
+long-sound : Sound longJob
+long-sound =
+    let slots = length-replicate {A = ℕ} 8 1 in
+    let blocks = length-replicate {A = ℕ} 512 0 in
+    let refs = length-replicate {A = ℕ} 2048 0 in
+    record {
+      someDisk = omega (arith, slots);
+      fewDisks = omega (arith, slots);
+      someSlot = λ d l. (let e = getD-replicate {A = ℕ} 8 d 1 0 (omega (arith, slots)) in omega (arith, e));
+      fewSlots = λ d l. (let e = getD-replicate {A = ℕ} 8 d 1 0 (omega (arith, slots)) in omega (arith, e));
+      someBlock = omega (arith, blocks);
+      fewBlocks = omega (arith, blocks);
+      onDisks = λ b l. (let e = getD-same {A = ℕ} 512 b 0 in omega (arith, e, slots));
+      fewRefs = omega (arith, refs);
+      toBlocks = λ i l. (let e = getD-same {A = ℕ} 2048 i 0 in omega (arith, e, blocks));
+    }
+
+-- and its ticket is that long
 pub ticket-longest : (t : List ℕ) × (j : Job) × (ticketOf t ≡ given j) × (length t ≡ 2507)
-unfolding longTicket _>>=_ _>>_ bind give field refuseIf many isClosed closing answer readAll slotsField diskField refField ticketReader ticketOf
-ticket-longest = (longTicket, record { slots = replicate 8 1; blockDisks = replicate 512 0; refs = replicate 2048 0 }, refl, refl)
+ticket-longest =
+    let slots = length-replicate {A = ℕ} 8 1 in
+    let blocks = length-replicate {A = ℕ} 512 0 in
+    let refs = length-replicate {A = ℕ} 2048 0 in
+    let bits = length-ticket longJob in
+    let same : length (ticketBits longJob) ≡ 20050 = omega (arith, bits, slots, blocks, refs) in
+    (pack (ticketBits longJob), longJob, sound-accepted longJob long-sound, length-pack (ticketBits longJob) ∙ ap bytesFor same)
 
 -- an action takes at most 20 bits
 

@@ -1,6 +1,6 @@
 -- Plans by a rule that chooses as both rules do: each round can be played, discards nothing beside an empty slot and consumes at least one
 -- reference, so a plan is a valid schedule of at most as many rounds as references are left. Assumes nothing.
-use mathlib.Core.Path.{_≡_, refl, sym, ap, _∙_, subst}
+use mathlib.Core.Path.{_≡_, refl, sym, ap, ap₂, _∙_, subst}
 use mathlib.Core.Logic.{_≢_}
 use mathlib.Core.Bool.{Bool, true, false}
 use mathlib.Core.List.{List, [], _∷_, _++_, map}
@@ -34,6 +34,13 @@ each-more f i zero = ap (λ (n : ℕ). f n ∷ []) (let e : i ≡ i + 0 = omega 
 each-more f i (suc k) =
     let e : suc i + k ≡ i + suc k = omega arith in
     ap (λ (l : List _). f i ∷ l) (each-more f (suc i) k ∙ ap (λ (n : ℕ). each f (suc i) k ++ (f n ∷ [])) e)
+
+-- two lists that agree at each number
+pub each-cong : {A : Type 0} (f g : ℕ → A) (i n : ℕ) → ((e : ℕ) → i ≤ e → e < i + n → f e ≡ g e) → each f i n ≡ each g i n
+unfolding each
+each-cong f g i zero h = refl
+each-cong f g i (suc n) h =
+    ap₂ (λ (a : _) (l : List _). a ∷ l) (h i (omega arith) (omega arith)) (each-cong f g (suc i) n (λ e p q. h e (omega arith) (omega arith)))
 
 length-actions : (f : ℕ → Choice) (i k : ℕ) → length (map action (each f i k)) ≡ k
 unfolding each

@@ -25,7 +25,7 @@ use Rattle.model.specs.Text.{text}
 use Rattle.model.specs.Page.{letter, lineOf, legend, ended, pageOf}
 use Rattle.model.specs.Sheet.{sheetOf}
 use Rattle.model.specs.Valid.{ValidTicket, ValidFrom, discardsFullFrom, LegalSheet, ValidSheet}
-use Rattle.model.specs.Calls.{jobUpTo, referencesOf, Counts, countsOf, fetchesOn, AllZero, shortCounts, sparingCounts, isSecond, ofTwo, isSparing, chosen, Planned, handed, handedCounts, plannedFor, planAnswer, shortAfter, sparingAfter, returned, partAfter, PlannedPage, planHanded, pageFor, pageAnswer, planGiven, pageLength, pageAfter, checkFor, checkAnswer, countsGiven, ChosenSheet, chosenOf, chosenFrom, chooseAnswer, returnedChoice, sheetAfter, checkRefusals, planRefusals, pageRefusals, among, countsNumbers, planningNumbers, choiceNumbers, countsWritten}
+use Rattle.model.specs.Calls.{jobUpTo, referencesOf, Counts, countsOf, fetchesOn, AllZero, shortCounts, sparingCounts, SparingWithin, isSecond, ofTwo, isSparing, chosen, Planned, handed, handedCounts, plannedFor, planAnswer, shortAfter, sparingAfter, returned, partAfter, PlannedPage, planHanded, pageFor, pageAnswer, planGiven, pageLength, pageAfter, checkFor, checkAnswer, countsGiven, ChosenSheet, chosenOf, chosenFrom, chooseAnswer, returnedChoice, sheetAfter, checkRefusals, planRefusals, pageRefusals, among, countsNumbers, planningNumbers, choiceNumbers, countsWritten}
 use Rattle.model.proofs.Choosing.{short-lawful, sparing-lawful}
 use Rattle.model.proofs.Ticket
 use Rattle.model.proofs.Stop
@@ -36,6 +36,7 @@ use Rattle.model.proofs.Page
 use Rattle.model.proofs.PageCall
 use Rattle.model.proofs.StopCalls
 use Rattle.model.proofs.ChargedCalls
+use Rattle.model.proofs.Waiting
 use Rattle.model.proofs.Refusals
 use Rattle.model.proofs.Longest
 
@@ -376,3 +377,17 @@ pub counts-after : (j : Job) (schedule more : Schedule) → ValidFrom j (start j
     → (countsOf j (schedule ++ more) .rounds ≡ countsOf j schedule .rounds)
     × ((d : ℕ) → fetchesOn (countsOf j (schedule ++ more)) d ≡ fetchesOn (countsOf j schedule) d + fetchesOn (countsOf j more) d)
 counts-after = ChargedCalls.counts-after
+
+-- 10. Request L8, "How much waiting can the sparing plan cost?" "For every accepted ticket and stop the sparing plan takes at most D times the rounds
+-- of the short plan (Theorem 7 of document 000, here with unequal slots)."
+pub sparing-bound : (t : List ℕ) (stop : ℕ) (j : Job) → jobUpTo t stop ≡ given j → SparingWithin j (shortCounts j) (sparingCounts j)
+sparing-bound = Waiting.sparing-bound
+
+-- So it takes at most D times the rounds of any sheet that passes, whoever drew it up;
+pub bound-of-any : (t : List ℕ) (stop : ℕ) (s : List ℕ) (j : Job) (c : Counts) → jobUpTo t stop ≡ given j → checkAnswer t stop s ≡ given c → SparingWithin j c (sparingCounts j)
+bound-of-any = Waiting.bound-of-any
+
+-- and on one disk the two plans take equally many rounds. That no smaller factor will do on two and on three disks is Theorem 8:
+-- crates/tight/proofs/Promises.antt.
+pub one-disk : (t : List ℕ) (stop : ℕ) (j : Job) → jobUpTo t stop ≡ given j → diskCount j ≡ 1 → sparingCounts j .rounds ≡ shortCounts j .rounds
+one-disk = Waiting.one-disk

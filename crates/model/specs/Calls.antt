@@ -1,17 +1,17 @@
 -- What planning, checking and choosing give: document 01, "The two plans", its last three paragraphs, and "Numbers of a refused call"; of document 02
--- the requests L1, "Choosing between sheets we already hold", L2, "A wall page of the run", L5, "Plan up to a stop", and L7, "Idle rounds at the end
--- are not charged". `planAnswer`, `pageAnswer`, `checkAnswer` and `chooseAnswer` are the calls; `crates/planner/src/lib.rt` has the functions whose
--- contracts are equations with them. Assumes nothing.
+-- the requests L1, "Choosing between sheets we already hold", L2, "A wall page of the run", L5, "Plan up to a stop", L7, "Idle rounds at the end are
+-- not charged", and L8, "How much waiting can the sparing plan cost?" `planAnswer`, `pageAnswer`, `checkAnswer` and `chooseAnswer` are the calls;
+-- `crates/planner/src/lib.rt` has the functions whose contracts are equations with them. Assumes nothing.
 use mathlib.Core.Path.{_≡_}
 use mathlib.Core.Bool.{Bool, false, cond, _||_}
 use mathlib.Core.List.{List, [], _∷_, _++_}
 use mathlib.Core.Option.{Option, none, some}
-use Prim.Native.Nat.{ℕ}
+use Prim.Native.Nat.{ℕ, _*_, _≤_}
 use lib.Dec.{ltb, leb, eqb}
 use lib.ListN.{length, getD, replicate, take}
 use Rattle.bits.specs.Bits.{be16, over, laid}
 use Rattle.bits.specs.Reading.{Answer, given, refused}
-use Rattle.model.specs.Job.{Job, refCount, upTo}
+use Rattle.model.specs.Job.{Job, diskCount, refCount, upTo}
 use Rattle.model.specs.Ticket.{ticketOf}
 use Rattle.model.specs.Playing.{Schedule, charged, fetches}
 use Rattle.model.specs.Rules.{Choice, short, sparing}
@@ -66,6 +66,11 @@ shortCounts j = countsOf j (scheduleOf short j)
 unfoldable pub sparingCounts : Job → Counts
 unfolding countsOf scheduleOf sparing
 sparingCounts j = countsOf j (scheduleOf sparing j)
+
+-- L8: "for every accepted ticket and stop the sparing plan takes at most D times the rounds of the short plan". Of a job, the counts of the short
+-- plan (or of any sheet) and those of the sparing plan.
+unfoldable pub SparingWithin : Job → Counts → Counts → Type 0
+SparingWithin j short sparing = sparing .rounds ≤ diskCount j * short .rounds
 
 -- which of two sheets
 pub data Which : Type 0 where

@@ -9,7 +9,7 @@ use Rattle.model.specs.Job.{Job}
 use Rattle.model.specs.Calls.{jobUpTo, checkAnswer, planAnswer, plannedFor, pageAnswer, pageFor, planGiven, pageLength, shortAfter, sparingAfter, pageAfter, returned, shortCounts, sparingCounts}
 use Rattle.model.specs.Calls.{Planned as PlanGiven}
 use Rattle.model.specs.Calls.{PlannedPage as PageGiven}
-use Rattle.model.proofs.Promises.{short-passes, sparing-passes, planned-counts, handed-back, page-exactly}
+use Rattle.model.proofs.Promises.{short-passes, sparing-passes, planned-counts, handed-back, page-exactly, sparing-bound}
 use Rattle.model.proofs.Bytes
 use Rattle.returning.specs.Returning.{plannedAs, plannedPageAs}
 use Rattle.returning.specs.declared.Planned.{Planned}
@@ -18,7 +18,7 @@ use Rattle.handing.proofs.Rooms.{Gives}
 use Rattle.handing.proofs.Pages.{GivesPage}
 use Rattle.planner.specs.Planner.{Promised}
 
--- Demands 2 and 3 hold of what planning gives.
+-- Demands 2 and 3, and the bound of L8, hold of what planning gives.
 promised-given : (t : List ℕ) (stop a b : ℕ) (p : PlanGiven) → planAnswer t stop a b ≡ given p → Promised t stop (given p)
 unfolding Promised shortCounts sparingCounts
 promised-given t stop a b p e =
@@ -29,6 +29,7 @@ promised-given t stop a b p e =
       ap (checkAnswer t stop) (n .3) ∙ sparing-passes t stop (w .0) (w .1) ∙ ap given (sym (n .1)),
       h .0,
       h .3,
+      λ j q. (let m = planned-counts t stop j a b p q e in rw (m .0, m .1) (sparing-bound t stop j q)),
     )
 
 promised : (t : List ℕ) (stop a b : ℕ) → Promised t stop (planAnswer t stop a b)
@@ -39,7 +40,7 @@ promised t stop a b = go (planAnswer t stop a b) refl
     go (given p) e = promised-given t stop a b p e
     go (refused n) e = tt
 
--- Demands 2 and 3 hold of what planning gives with a page.
+-- They hold of what planning gives with a page.
 page-promised : (t : List ℕ) (stop a b c : ℕ) → Promised t stop (planGiven (pageAnswer t stop a b c))
 unfolding Promised planGiven
 page-promised t stop a b c = go (pageAnswer t stop a b c) refl

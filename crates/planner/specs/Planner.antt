@@ -8,7 +8,7 @@ use Rattle.bits.specs.Reading.{Answer, given, refused}
 use Rattle.model.specs.Job.{Job}
 use Rattle.model.specs.Playing.{Schedule}
 use Rattle.model.specs.Valid.{ValidSheet}
-use Rattle.model.specs.Calls.{jobUpTo, Counts, countsOf, fetchesOn, shortCounts, sparingCounts, ofTwo, isSparing, handedCounts, Planned, planAnswer, PlannedPage, pageAnswer, checkAnswer, ChosenSheet}
+use Rattle.model.specs.Calls.{jobUpTo, Counts, countsOf, fetchesOn, shortCounts, sparingCounts, SparingWithin, ofTwo, isSparing, handedCounts, Planned, planAnswer, PlannedPage, pageAnswer, checkAnswer, ChosenSheet}
 use Rattle.checking.specs.Checking.{checkedOf}
 use Rattle.checking.specs.declared.Checked.{Checked}
 
@@ -36,14 +36,16 @@ Unbeaten ticket stop r = r .number ≡ 0
     → (j : Job) → jobUpTo ticket stop ≡ given j → (shortCounts j .rounds ≤ r .rounds) × ((d : ℕ) → fetchesOn (sparingCounts j) d ≤ getD (r .fetches) d 0)
 
 -- Demands 2 and 3, of planning: either sheet passes the check with the counts given; the mark is sparing exactly when both plans take equally many
--- rounds; and no sheet that passes takes fewer rounds than the one handed back, or on any disk fewer fetches than the sparing one.
+-- rounds; and no sheet that passes takes fewer rounds than the one handed back, or on any disk fewer fetches than the sparing one. Request L8: of the
+-- counts given, the sparing plan's rounds are at most D times the short plan's.
 unfoldable pub Promised : List ℕ → ℕ → Answer Planned → Type 0
-unfolding checkAnswer
+unfolding jobUpTo checkAnswer SparingWithin
 Promised ticket stop (given p) =
     (checkAnswer ticket stop (p .shortSheet) ≡ given (p .short))
     × (checkAnswer ticket stop (p .sparingSheet) ≡ given (p .sparing))
     × ((p .mark ≡ isSparing) ↔ (p .short .rounds ≡ p .sparing .rounds))
     × ((s : List ℕ) (c : Counts) → checkAnswer ticket stop s ≡ given c → (handedCounts p .rounds ≤ c .rounds) × ((d : ℕ) → fetchesOn (p .sparing) d ≤ fetchesOn c d))
+    × ((j : Job) → jobUpTo ticket stop ≡ given j → SparingWithin j (p .short) (p .sparing))
 Promised ticket stop (refused n) = Unit {0}
 
 -- Request L1, of a choice: the sheet handed back passes the check, and so does the other, which takes no fewer rounds.

@@ -28,8 +28,8 @@ use Rattle.playing.specs.declared.Buffers.{Buffers}
 use Rattle.choosing.specs.Choosing.{ruleOf}
 use Rattle.choosing.specs.declared.Rule.{Rule}
 use Rattle.choosing.specs.declared.Rule.the-variants.{Short, Sparing}
-use Rattle.choosing.proofs.Right.{Listed, Pointer, DiskRight, Right, Forward}
-use Rattle.choosing.proofs.PointerRight.{forward-ahead, forward-made}
+use Rattle.lookup.proofs.Right.{Listed, Pointer, DiskRight, Right, Forward}
+use Rattle.moving.proofs.PointerRight.{forward-ahead, forward-made}
 use Rattle.driving.specs.Driving.{noActs, drivenFrom, reasonsFrom, totalsOf}
 use Rattle.driving.specs.Sized.{Sized, Kept}
 use Rattle.driving.specs.declared.Totals.{Totals}

@@ -1,5 +1,5 @@
--- A page as it is printed: column by column, from the bytes of a sheet and of its reasons. `proofs/ReadBack.antt` leads from here to the model's page.
--- Assumes nothing.
+-- A page as it is printed: column by column, from the bytes of a sheet and of its reasons. `proofs/ReadBack.antt` leads from here to the model's
+-- page. Assumes nothing.
 use mathlib.Core.Bool.{cond, _&&_}
 use mathlib.Core.List.{List, [], _∷_, _++_}
 use Prim.Native.Nat.{ℕ, zero, suc, _+_, _/_, _%_}

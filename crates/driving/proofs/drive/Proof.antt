@@ -17,7 +17,7 @@ use Rattle.playing.specs.Playing.{consumeOne}
 use Rattle.playing.specs.declared.Buffers.{Buffers}
 use Rattle.choosing.specs.declared.Choice.{Choice}
 use Rattle.choosing.specs.declared.Choice.the-variants.{IntoEmpty, OverMinBlock, MinBlockSooner, Waits, NoneMissing}
-use Rattle.choosing.specs.Moving.{Ahead}
+use Rattle.moving.specs.Moving.{Ahead}
 use Rattle.acting.specs.Acting.{Small}
 use Rattle.driving.specs.Driving.{PlanInput, PlanState, noActs, readFrom}
 use Rattle.driving.specs.Sized.{Kept}

@@ -6,7 +6,7 @@ ghost use Prim.Native.Nat.{_≤_, _<_};
 ghost use lib.ListN.{length, getD};
 ghost use Rattle.bits.specs.Bits.{Below};
 ghost use Rattle.lookup.specs.Desk.{ofDisk, looks};
-ghost use Rattle.choosing.specs.Moving.{Ahead, moveFrom, movedOn};
+ghost use Rattle.moving.specs.Moving.{Ahead, moveFrom, movedOn};
 
 // The pointer moves on from `look`, reference by reference of its disk, to the first whose block is missing, or to the end.
 fn advance(

@@ -6,10 +6,10 @@ use lib.ListN.{length, getD}
 use borrow.Author.Tests.{not-true, not-false}
 use denote.Ref.{now}
 use Rattle.lookup.specs.Desk.{ofDisk}
-use Rattle.choosing.specs.Moving.{moveFrom}
-use Rattle.choosing.proofs.Moves.{move-step, move-missing, move-end}
-use Rattle.choosing.proofs.moving.advance.Statement.{statement}
-use Rattle.choosing.proofs.moving.advance.Tie as tie
+use Rattle.moving.specs.Moving.{moveFrom}
+use Rattle.moving.proofs.Moves.{move-step, move-missing, move-end}
+use Rattle.moving.proofs.advance.Statement.{statement}
+use Rattle.moving.proofs.advance.Tie as tie
 
 abbrev Inv-loop : tie.InvT-loop
 Inv-loop refs resident steps desk₀ look p₀ desk p =
@@ -73,12 +73,9 @@ loop-again c =
     let left = l .inv .0 - 1 in
     let more = l .inv .1 in
     let one : suc left ≡ l .inv .0 = omega (arith, more) in
-    let on = move-step refs resident steps left (l .p) (l .desk) (omega arith) (not-false _ (c .before .before .before .if1 .left)) in
-    rw (c .after .ensures, c .before .pass .ensures) (
-      left,
-      omega (arith, more, ahead (turn c)),
-      sym on ∙ ap (λ (n : ℕ). moveFrom refs resident steps n (l .p) (l .desk)) one ∙ l .inv .2,
-    )
+    let on = move-step refs resident steps left (l .p) (l .desk) (omega arith) (not-false _ (c .before .before .before .if1 .left)) _ _ (c .after .ensures)
+    (c .before .pass .ensures) in
+    (left, (let to = c .after .ensures in omega (arith, more, to, ahead (turn c))), on ∙ ap (λ (n : ℕ). moveFrom refs resident steps n (l .p) (l .desk)) one ∙ l .inv .2)
 
 returns-2 : tie.Need-returns-2 Inv-loop μ-loop
 returns-2 c = let inv = c .before .loop .inv in sym (move-end _ _ _ (inv .0) _ _ (omega arith)) ∙ inv .2

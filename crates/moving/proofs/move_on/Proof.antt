@@ -2,9 +2,9 @@
 use mathlib.Core.Path.{_∙_}
 use native.Mathlib.Omega.{arith}
 use borrow.Author.Needs.{needs}
-use Rattle.choosing.proofs.Moves.{stop-within, moved-on}
-use Rattle.choosing.proofs.moving.move_on.Statement.{statement}
-use Rattle.choosing.proofs.moving.move_on.Tie as tie
+use Rattle.moving.proofs.Moves.{stop-within, moved-on}
+use Rattle.moving.proofs.move_on.Statement.{statement}
+use Rattle.moving.proofs.move_on.Tie as tie
 
 at-requires : tie.Need-at-requires
 at-requires c κs = search needs

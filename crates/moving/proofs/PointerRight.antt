@@ -18,8 +18,8 @@ use Rattle.model.specs.Rules.{distance}
 use Rattle.model.proofs.Distances.{distance-hit}
 use Rattle.lookup.specs.Desk.{row, laters, looks, ofBlock, ofDisk, stepped}
 use Rattle.lookup.proofs.Rows.{row-other, row-same}
-use Rattle.choosing.specs.Moving.{Ahead, moveFrom, movedOn}
-use Rattle.choosing.proofs.Right.{Pointer, Forward}
+use Rattle.moving.specs.Moving.{Ahead, moveFrom, movedOn}
+use Rattle.lookup.proofs.Right.{Pointer, Forward}
 
 -- one reference of the disk is passed
 module _ {j : Job} {resident : List Bool} {from d p : ℕ} {steps : List (List ℕ)} {later : List ℕ} (sound : Sound j) (tables : Forward j steps)

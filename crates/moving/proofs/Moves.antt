@@ -8,16 +8,16 @@ use lib.Dec.{ltb}
 use lib.ListN.{length, getD}
 use borrow.Author.Tests.{lt-ltb, le-ltb, ltb-true}
 use Rattle.bits.proofs.Logic.{by-test, and-false-right}
-use Rattle.lookup.specs.Desk.{withCell, looks, ofBlock, ofDisk}
-use Rattle.choosing.specs.Moving.{Ahead, moveFrom, movedOn}
+use Rattle.lookup.specs.Desk.{LATER, withCell, looks, ofBlock, ofDisk}
+use Rattle.moving.specs.Moving.{Ahead, moveFrom, movedOn}
 
 module _ (refs : List ℕ) (resident : List Bool) (steps : List (List ℕ)) where
-  -- past a resident block it goes on from the next reference of its disk,
-  pub move-step : (n p : ℕ) (desk : List (List ℕ)) → p < length refs → getD resident (getD refs p 0) false ≡ true
-      → moveFrom refs resident steps (suc n) p desk
-      ≡ moveFrom refs resident steps n (getD (ofDisk steps) p 0) (withCell desk 1 (getD refs p 0) (getD (ofBlock steps) p 0))
+  -- past a resident block it goes on from the next reference of its disk, and the row of distances from the pointer changes,
+  pub move-step : (n p : ℕ) (desk : List (List ℕ)) → p < length refs → getD resident (getD refs p 0) false ≡ true → (p′ : ℕ) (desk′ : List (List ℕ))
+      → p′ ≡ getD (ofDisk steps) p 0 → desk′ ≡ withCell desk LATER (getD refs p 0) (getD (ofBlock steps) p 0)
+      → moveFrom refs resident steps n p′ desk′ ≡ moveFrom refs resident steps (suc n) p desk
   unfolding moveFrom
-  move-step n p desk more here = rw (lt-ltb p (length refs) more, here)
+  move-step n p desk more here p′ desk′ to passed = rw (to, passed, lt-ltb p (length refs) more, here)
 
   -- and it stops at a missing one
   pub move-missing : (n p : ℕ) (desk : List (List ℕ)) → getD resident (getD refs p 0) false ≡ false
