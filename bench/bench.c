@@ -219,7 +219,7 @@ static void few_rounds(unsigned repeats)
     printf("\n");
 }
 
-/* Reading the longest ticket: the check of an empty sheet, which ends with 9. */
+/* Reading a ticket of full size: the check of an empty sheet, which ends with 9. */
 static void reading(unsigned repeats)
 {
     enum { TIMES = 32 };
@@ -240,7 +240,7 @@ static void reading(unsigned repeats)
             took[which][r] = (nanoseconds() - start) / TIMES;
         }
     }
-    printf("Reading the longest ticket, %zu bytes: %.1f us, the reference %.1f us.\n\n", job.ticket_length, median_of(took[0], repeats) / 1e3,
+    printf("Reading a ticket of full size, %zu bytes: %.1f us, the reference %.1f us.\n\n", job.ticket_length, median_of(took[0], repeats) / 1e3,
            median_of(took[1], repeats) / 1e3);
 }
 

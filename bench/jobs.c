@@ -4,6 +4,7 @@
 
 #include <stdio.h>
 #include <stdlib.h>
+#include <string.h>
 
 const char *const pattern_name[] = {"random", "cyclic", "thrash", "crowded", "same"};
 
@@ -49,6 +50,7 @@ void make_job(const struct shape *s, struct ref_job *job)
         job->disk[b] = (uint8_t)disk_of(s, b);
     for (unsigned i = 0; i < s->references; i++)
         job->reference[i] = (uint16_t)draw_reference(&c, s, i);
+    memset(job->carried, 0, sizeof job->carried);
 }
 
 struct shape full_shape(unsigned k)

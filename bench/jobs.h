@@ -13,7 +13,7 @@ struct shape {
 
 extern const char *const pattern_name[];
 
-/* Its job, of which all references count: the stop is their number. */
+/* Its job, of which all references count: the stop is their number. No block is carried in. */
 void make_job(const struct shape *s, struct ref_job *job);
 
 /* The jobs of full size: 8 disks, 512 blocks, 2,048 references. */

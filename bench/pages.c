@@ -162,7 +162,7 @@ static size_t least_stack(enum program program, FILE *ticket)
     static uint8_t want[REF_PAGE + 1];
     size_t low = 0, high = (size_t)1 << 22, n = output_of(program, ticket, high, want, sizeof want);
 
-    must(program == PAGE ? n == REF_PAGE : n > strlen("refused 8\n"), "the longest job is not printed");
+    must(program == PAGE ? n == REF_PAGE : n > strlen("refused 26\n"), "the longest job is not printed");
     while (high - low > STEP) {
         size_t middle = low + (high - low) / 2 / STEP * STEP;
 

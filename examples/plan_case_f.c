@@ -8,9 +8,10 @@
 #include <stdio.h>
 #include <string.h>
 
-/* Field by field: D 2, slots 1 2, B 5, disks 0 0 1 1 1, N 7, references 2 3 0 1 2 4 3, two zero bits. */
-static const uint8_t ticket[15] = {0x20, 0x20, 0x80, 0x50, 0x09, 0x20, 0x0e, 0x02,
-                                   0x01, 0x80, 0x00, 0x20, 0x20, 0x20, 0x0c};
+/* Field by field: D 2, slots 1 2, B 5, disks 0 0 1 1 1, N 7, references 2 3 0 1 2 4 3, carried in 0 on each disk, four zero
+ * bits. */
+static const uint8_t ticket[17] = {0x20, 0x20, 0x80, 0x50, 0x09, 0x20, 0x0e, 0x02, 0x01,
+                                   0x80, 0x00, 0x20, 0x20, 0x20, 0x0c, 0x00, 0x00};
 
 /* Mark and length; rounds and eight fetch counts of the short plan; the same of the sparing plan. */
 static const unsigned numbers[20] = {1, 11, 4, 2, 4, 0, 0, 0, 0, 0, 0, 4, 2, 3, 0, 0, 0, 0, 0, 0};

@@ -315,9 +315,11 @@ static bool take_apart(const struct input *in)
     return true;
 }
 
-/* Changes the ticket alone, one sheet alone, the stop alone, or all bytes as they stand; now and then a fresh job. */
+/* Changes the ticket alone, one sheet alone, the stop alone, or all bytes as they stand; now and then a field of an accepted ticket, those of the
+ * carried blocks most of all, or puts in a fresh job. */
 size_t LLVMFuzzerCustomMutator(uint8_t *data, size_t size, size_t most, unsigned seed)
 {
+    static struct ref_job job;
     struct chance c = chance_for(seed, 0);
     struct input in = input_of(data, size);
     unsigned how = below(&c, 16);
@@ -326,7 +328,9 @@ size_t LLVMFuzzerCustomMutator(uint8_t *data, size_t size, size_t most, unsigned
     if (how == 0)
         made = fresh(&c, data, most);
     else if (how < 13 && size >= HEAD && take_apart(&in)) {
-        if (how < 6)
+        if (how == 1 && ref_read_ticket(parts.ticket, parts.n, 0, &job) == 0)
+            parts.n = damage_ticket(&c, &job, parts.ticket, parts.n);
+        else if (how < 6)
             parts.n = LLVMFuzzerMutate(parts.ticket, parts.n, sizeof parts.ticket);
         else if (how < 11)
             parts.m[how % 2] = LLVMFuzzerMutate(parts.sheet[how % 2], parts.m[how % 2], sizeof parts.sheet[0]);

@@ -1,7 +1,8 @@
 /* planner.h - plans for parallel disks that no schedule beats
  *
  * A job lists the blocks it will read, in order. Up to eight disks, each with a few buffer slots of its own, fetch them: in one round every disk
- * may fetch one block, discarding another exactly if its slots are full; then the job is read on until a block is missing.
+ * may fetch one block, discarding another exactly if its slots are full; then the job is read on until a block is missing. Blocks may be carried in
+ * from the last job: they are in the buffers from the start, and before round 1 the job is read as far as they allow.
  *
  *   planner_plan    makes two plans of a job: the short one (P-MIN), which takes the fewest rounds, and the sparing one (P-CON), which takes the
  *                   fewest fetches on every disk; and says which one to run: the sparing one exactly when both take equally many rounds.
@@ -16,9 +17,13 @@
  * read, and a block that is read only from there on is as one that is never read again. A stop that is the ticket's number of references is the whole
  * job; any value may be given, and one above that number is refused.
  *
+ * After its references a ticket has, for each disk in order, the number of blocks that it carries in, in 7 bits, at most its slots, and then these
+ * blocks, in 9 bits each, all of that disk and each above the one before; a disk that carries in none has the number 0. Every sheet for a ticket,
+ * planned, checked or chosen, starts from its carried blocks. A carried block is no fetch; it has its slot, as a fetched one, until it is discarded.
+ *
  * A sheet's rounds, for a ticket and a stop, are those that are charged: up to the round in which the last reference before the stop is read, 0 if
- * nothing has to be read. The rounds written, which the sheet's first 12 bits say, may be more, idle or not; its fetches are counted in all of them,
- * to the end. Of either plan all rounds are charged.
+ * nothing had to be fetched. The rounds written, which the sheet's first 12 bits say, may be more, idle or not; its fetches are counted in
+ * all of them, to the end. Of either plan all rounds are charged.
  *
  * No sheet that planner_check passes for a ticket and a stop takes fewer rounds than the short plan for them, or on any disk fewer fetches than the
  * sparing plan, whatever it does after its last read. This, the bound below, each result and every byte written are proved of the source; the
@@ -45,7 +50,7 @@ extern "C" {
 #endif
 
 /* Sizes in bytes. */
-#define PLANNER_LONGEST_TICKET 2507   /* no accepted ticket is longer */
+#define PLANNER_LONGEST_TICKET 3090   /* no accepted ticket is longer */
 #define PLANNER_LONGEST_SHEET 40962   /* no sheet that passes is longer: a buffer of this size holds any plan */
 #define PLANNER_PLAN_COUNTS 40        /* what planner_plan writes to `counts` */
 #define PLANNER_CHECK_COUNTS 18       /* what planner_check writes to `counts` */
@@ -62,6 +67,8 @@ enum planner_number {
     PLANNER_TICKET_BLOCK_DISK = 5,
     PLANNER_TICKET_REFERENCES = 6,
     PLANNER_TICKET_REFERENCE = 7,
+    PLANNER_CARRIED_COUNT = 25,
+    PLANNER_CARRIED_BLOCK = 26,
     PLANNER_TICKET_CLOSING = 8,
     /* the stop, in every call, after the ticket */
     PLANNER_STOP = 21,
@@ -98,6 +105,8 @@ static inline const char *planner_why(uint32_t number)
     case PLANNER_TICKET_BLOCK_DISK: return "a block lies on a disk that the job has not";
     case PLANNER_TICKET_REFERENCES: return "the job has more than 2048 references";
     case PLANNER_TICKET_REFERENCE:  return "a reference is to a block that the job has not";
+    case PLANNER_CARRIED_COUNT:     return "a disk carries in more blocks than it has slots";
+    case PLANNER_CARRIED_BLOCK:     return "a carried block is not above the one before, not of the job, or on another disk";
     case PLANNER_TICKET_CLOSING:    return "the ticket's closing bits are not all zero, or a byte follows them";
     case PLANNER_STOP:              return "the stop is above the ticket's number of references";
     case PLANNER_SHEET_ENDS:        return "the sheet ends inside a field that is due";
@@ -152,8 +161,8 @@ static inline size_t planner_references(const uint8_t *ticket, size_t ticket_len
  *                    2..10   the short plan: its rounds, all of them charged, and its fetches on disks 0 to 7 (0 for disks that the job has not)
  *                    11..19  the sparing plan: the same
  *
- * Returns 0, or 1 to 8, 21, 17 or 18. A refusal writes nothing. Each written sheet passes planner_check, with the same stop, with the counts given
- * here. */
+ * Returns 0, or 1 to 8, 25, 26, 21, 17 or 18. A refusal writes nothing. Each written sheet passes planner_check, with the same stop, with the counts
+ * given here. */
 uint32_t planner_plan(const uint8_t *ticket, size_t ticket_length, size_t stop,
                       uint8_t *short_sheet, size_t short_length,
                       uint8_t *sparing_sheet, size_t sparing_length,
@@ -164,10 +173,11 @@ uint32_t planner_plan(const uint8_t *ticket, size_t ticket_length, size_t stop,
  *   ticket, sheet  read only
  *   stop           the number of references that count: the sheet need read no others
  *   counts         nine numbers of 16 bits, most significant byte first, as far as the slice reaches (its length may be 0):
- *                    0       the sheet's rounds, those charged: up to the one in which the last reference before the stop is read, 0 for a stop of 0
+ *                    0       the sheet's rounds, those charged: up to the one in which the last reference before the stop is read, 0 if nothing had
+ *                            to be fetched
  *                    1..8    its fetches on disks 0 to 7, in all rounds that are written in it
  *
- * Returns 0 if the sheet is a valid schedule of the ticket's job up to the stop, else 1 to 8, 21, 9 to 16 or 20. A refusal writes nothing. */
+ * Returns 0 if the sheet is a valid schedule of the ticket's job up to the stop, else 1 to 8, 25, 26, 21, 9 to 16 or 20. A refusal writes nothing. */
 uint32_t planner_check(const uint8_t *ticket, size_t ticket_length, size_t stop,
                        const uint8_t *sheet, size_t sheet_length,
                        uint8_t *counts, size_t counts_length);
@@ -183,7 +193,8 @@ uint32_t planner_check(const uint8_t *ticket, size_t ticket_length, size_t stop,
  *                    0       the sheet handed back: 0 the first, 1 the second
  *                    1       the length of that sheet, in bytes: first_length or second_length
  *
- * Returns 0, or 1 to 8, 21, 9 to 16 or 20: planner_check's number for the first sheet or, if that is 0, for the second. A refusal writes nothing.
+ * Returns 0, or 1 to 8, 25, 26, 21, 9 to 16 or 20: planner_check's number for the first sheet or, if that is 0, for the second. A refusal writes
+ * nothing.
  *
  * No sheet is copied: the caller has both, and the one handed back is `second` if number 0 above is 1, else `first`. It passes planner_check and
  * takes no more rounds than the other. Between the two sheets of planner_plan with the same stop, the short one first, it is the second exactly when

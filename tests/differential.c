@@ -4,8 +4,10 @@
  * Draws COUNT jobs from number FIRST on (default 0) and stops at the first disagreement. Every
  * job's draws depend on the seed and its own number only, so "SEED 1 FIRST" replays one job.
  * Exit 0 only if all agree and, in a run from 0 on, each call met every number that it can return,
- * every kind of stop, and stops above N for tickets that are refused, and filled counts slices of
- * every length from 0 to 45; the check met sheets for a later and for an earlier stop, and passed
+ * every kind of stop, and stops above N for tickets that are refused, tickets that end in the carried
+ * blocks, and jobs that carry blocks in and that carry none, that are read before round 1 in part and
+ * to the stop, and with a disk full of carried blocks, and filled counts slices of every length from 0
+ * to 45; the check met sheets for a later and for an earlier stop, and passed
  * sheets of which all rounds are charged, not all, and none; the choice met also each number of a
  * second sheet whose first passes, handed back either sheet, also where the rounds written would
  * have it the other, and met equal rounds and the same sheet twice; a sparing plan took more than
@@ -22,7 +24,7 @@
 #include <string.h>
 #include <sys/mman.h>
 
-enum { GUARD = 24, COUNTS_MOST = 45, NUMBERS = 22, SLICES = 4, SHEETS = 17 };
+enum { GUARD = 24, COUNTS_MOST = 45, NUMBERS = 27, SLICES = 4, SHEETS = 17 };
 enum { ARENA = 1 << 16, EDGE = 1 << 12 };   /* bytes for one slice; bytes after it that nobody may touch */
 
 /* CHOOSE_SECOND is planner_choose where the first sheet passes and the second is refused. */
@@ -38,6 +40,14 @@ enum kind { NONE, BETWEEN, WHOLE, NEXT, LARGEST, LOW_16, LOW_32, ABOVE, KINDS };
 static const char *const kind_name[KINDS] = {"0", "in between", "N", "N + 1", "the largest",
                                              "not above in 16 bits", "in 32 bits", "others"};
 
+/* The kinds of job, of calls that are not refused, by what it carries in: nothing; something, of which
+ * nothing, some, or all up to the stop is read before round 1; and so much that a disk is full. */
+enum carried { EMPTY, UNREAD, IN_PART, IN_WHOLE, FULL, CARRIED };
+
+static const char *const carried_name[CARRIED] = {"nothing", "blocks that are not next",
+                                                  "blocks read before round 1 in part", "to the stop",
+                                                  "a disk full"};
+
 /* The bytes from which the header reads N: a sound ticket; others that give a number, or 0. */
 enum read { SOUND, OTHER, ZERO, READS };
 
@@ -47,6 +57,8 @@ static struct {
     struct chance chance;
     unsigned long met[CALLS][NUMBERS], lengths[CALLS][COUNTS_MOST + 1];
     unsigned long stops[CALLS][KINDS], ticket_first[CALLS];
+    unsigned long carried[CALLS][CARRIED];
+    unsigned long ends[CALLS];                 /* tickets that end in the carried blocks */
     unsigned long later, earlier[2];           /* sheets for a later stop; an earlier one: 0, 15 */
     unsigned long reads[READS];
     unsigned long marks[2], passes, chosen[2], equal, same;
@@ -223,15 +235,65 @@ static enum kind kind_of(size_t stop, unsigned references)
     return (uint32_t)stop <= references ? LOW_32 : (uint16_t)stop <= references ? LOW_16 : ABOVE;
 }
 
-/* Counts the stop of a call with this number: which it was, or that the ticket came first. */
-static void count_stop(enum call call, struct part part, unsigned number)
+/* The numbers of a ticket. */
+static bool of_a_ticket(unsigned number)
+{
+    return (number >= 1 && number <= 8) || number == 25 || number == 26;
+}
+
+/* A field of a ticket that has it, of at most 16 bits. */
+static unsigned field_at(struct bytes ticket, size_t at, unsigned width)
+{
+    unsigned value = 0;
+
+    for (; width > 0; width--, at++)
+        value = value << 1 | (ticket.at[at / 8] >> (7 - at % 8) & 1);
+    return value;
+}
+
+/* Whether a ticket that ends inside a field has all its references, so that it ends after them. */
+static bool ends_late(struct bytes ticket, unsigned references)
+{
+    size_t blocks = ticket.len == 0 ? 0 : 4 + 7 * (ticket.at[0] >> 4);
+
+    return references > 0 && 8 * ticket.len >= blocks + 10 + 3 * field_at(ticket, blocks, 10) + 12 +
+                                                   9 * references;
+}
+
+/* Counts what the job of a call that is not refused carries in. */
+static void count_carried(enum call call, struct part part)
+{
+    static struct ref_job job;
+    unsigned held[REF_DISKS] = {0}, blocks = 0, next_read = 0;
+    bool full = false;
+
+    if (ref_read_ticket(part.ticket.at, part.ticket.len, part.stop, &job) != 0)
+        exit(2);
+    for (unsigned b = 0; b < job.blocks; b++)
+        if (job.carried[b]) {
+            full = full || ++held[job.disk[b]] == job.slots[job.disk[b]];
+            blocks++;
+        }
+    while (next_read < job.stop && job.carried[job.reference[next_read]])
+        next_read++;
+    run.carried[call][blocks == 0 ? EMPTY : next_read == 0 ? UNREAD
+                      : next_read < job.stop ? IN_PART : IN_WHOLE]++;
+    run.carried[call][FULL] += full;
+}
+
+/* Counts the ticket and the stop of a call with this number: which they were, or that the ticket came
+ * first. */
+static void count_part(enum call call, struct part part, unsigned number)
 {
     unsigned references = ref_references(part.ticket.at, part.ticket.len);
 
     if (number == 0 || number == 21)
         run.stops[call][kind_of(part.stop, references)]++;
-    else if (number <= 8 && part.stop > references)
+    else if (of_a_ticket(number) && part.stop > references)
         run.ticket_first[call]++;
+    if (number == 0)
+        count_carried(call, part);
+    run.ends[call] += number == 1 && ends_late(part.ticket, references);
 }
 
 /* The rounds that are written in a sheet, which has them. */
@@ -299,7 +361,7 @@ static void try_plan(struct part part, size_t ns, size_t np)
         ref_fill_counts(numbers, REF_PLANNED_NUMBERS, s[3].want, s[3].len);
         run.marks[planned.mark]++;
     }
-    count_stop(PLAN, part, want);
+    count_part(PLAN, part, want);
     compare(PLAN, have, want, s, 4);
 }
 
@@ -380,7 +442,7 @@ static struct checked try_check(struct part part, struct bytes sheet)
             fail(CHECK, s, 3);
         }
     }
-    count_stop(CHECK, part, want.number);
+    count_part(CHECK, part, want.number);
     compare(CHECK, have, want.number, s, 3);
     return want;
 }
@@ -450,7 +512,7 @@ static void try_choose(struct part part, struct checked first, struct checked se
         ref_fill_counts(numbers, REF_CHOSEN_NUMBERS, s[3].want, s[3].len);
         count_choice(&first, &second, chosen.which);
     }
-    count_stop(CHOOSE, part, want);
+    count_part(CHOOSE, part, want);
     compare(want != 0 && first.number == 0 ? CHOOSE_SECOND : CHOOSE, have, want, s, 4);
 }
 
@@ -690,16 +752,17 @@ static void try_job(uint64_t number)
     try_reading(part.ticket, worse.ticket, &job);
 }
 
-/* Planning returns 0 to 8, 21, 17 and 18; the check and the choice 0 to 8, 21, 9 to 16 and 20, by
- * the second sheet alone 9 to 16 and 20. */
+/* Planning returns 0 to 8, 25, 26, 21, 17 and 18; the check and the choice 0 to 8, 25, 26, 21, 9 to 16
+ * and 20, by the second sheet alone 9 to 16 and 20. */
 static bool can_return(enum call call, unsigned number)
 {
     bool of_a_sheet = (number >= 9 && number <= 16) || number == 20;
+    bool of_all = number == 0 || of_a_ticket(number) || number == 21;
 
     switch (call) {
-    case PLAN: return number <= 8 || number == 17 || number == 18 || number == 21;
+    case PLAN: return of_all || number == 17 || number == 18;
     case CHOOSE_SECOND: return of_a_sheet;
-    default: return number <= 8 || number == 21 || of_a_sheet;
+    default: return of_all || of_a_sheet;
     }
 }
 
@@ -731,6 +794,20 @@ static bool all_stops_met(enum call call)
         all = all && run.stops[call][k] > 0;
     }
     printf(" above N for a refused ticket %lu\n", run.ticket_first[call]);
+    return all;
+}
+
+/* The same of what jobs carry in. */
+static bool all_carried_met(enum call call)
+{
+    bool all = run.ends[call] > 0;
+
+    printf("  carried in, in %s:", call_name[call]);
+    for (unsigned k = 0; k < CARRIED; k++) {
+        printf(" %s %lu,", carried_name[k], run.carried[call][k]);
+        all = all && run.carried[call][k] > 0;
+    }
+    printf(" tickets that end there %lu\n", run.ends[call]);
     return all;
 }
 
@@ -790,10 +867,13 @@ int main(int argc, char **argv)
         all = all_met((enum call)call) && all;
     for (int call = PLAN; call <= CHOOSE; call++)
         all = all_stops_met((enum call)call) && all;
+    for (int call = PLAN; call <= CHOOSE; call++)
+        all = all_carried_met((enum call)call) && all;
     all = all_else_met() && all;
     all = long_wait_met() && all;
     if (!all && first == 0)
-        printf("FAIL: a number, a length of the counts slice, a kind of stop, of sheet, of choice or "
-               "of bytes, or a wait of more than D - 1 times the rounds was never met\n");
+        printf("FAIL: a number, a length of the counts slice, a kind of stop, of carried blocks, of "
+               "sheet, of choice or of bytes, or a wait of more than D - 1 times the rounds was never "
+               "met\n");
     return all || first != 0 ? 0 : 1;
 }

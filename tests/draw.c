@@ -117,6 +117,32 @@ static void draw_references(struct chance *c, struct ref_job *job)
     }
 }
 
+/* Carries a block in, if its disk has a slot for it. */
+static void carry(struct ref_job *job, unsigned *held, unsigned b)
+{
+    unsigned d = job->disk[b];
+
+    if (!job->carried[b] && held[d] < job->slots[d]) {
+        job->carried[b] = true;
+        held[d]++;
+    }
+}
+
+/* Blocks carried in, in one job of two: those that are read first, up to one of them; these and others;
+ * or any, up to as many as the slots hold. */
+static void draw_carried(struct chance *c, struct ref_job *job)
+{
+    unsigned how = below(c, 6), often = between(c, 1, 4), length = between(c, 1, 30);
+    unsigned first = below(c, job->blocks), held[REF_DISKS] = {0};
+
+    memset(job->carried, 0, sizeof job->carried);
+    for (unsigned i = 0; how < 2 && i < job->references && !one_in(c, length); i++)
+        carry(job, held, job->reference[i]);
+    for (unsigned k = 0; (how == 1 || how == 2) && k < job->blocks; k++)
+        if (one_in(c, often))
+            carry(job, held, (first + k) % job->blocks);
+}
+
 /* Two of the sequences of Theorem 8's family, on one disk: a block in front and then those between two
  * places, twice, each time with its own block in front. Blocks are counted from the disk's first. */
 static void put_stretch(struct ref_job *job, unsigned first, const unsigned front[2], unsigned from,
@@ -132,7 +158,8 @@ static void put_stretch(struct ref_job *job, unsigned first, const unsigned fron
 /* A job of the family by which Theorem 8 of document 000 shows that Theorem 7's bound is tight: M
  * slots and 2M blocks on each disk, from B_i(1) on; on each disk in turn alpha and beta, then on each
  * gamma and delta, repeated. One in six has all the disks, M = D and as many repetitions as fit, for a
- * factor above 6 with 8 disks; of the others one in three has other slots on one disk. */
+ * factor above 6 with 8 disks, and carries nothing in; of the others one in three has other slots on
+ * one disk. */
 static void draw_waiting(struct chance *c, const struct sizes *s, struct ref_job *job)
 {
     bool largest = one_in(c, 6);
@@ -158,6 +185,9 @@ static void draw_waiting(struct chance *c, const struct sizes *s, struct ref_job
     job->stop = job->references;
     if (!largest && one_in(c, 3))
         job->slots[other] = between(c, 1, REF_SLOTS);
+    memset(job->carried, 0, sizeof job->carried);
+    if (!largest)
+        draw_carried(c, job);
 }
 
 void draw_job(struct chance *c, struct ref_job *job)
@@ -174,22 +204,38 @@ void draw_job(struct chance *c, struct ref_job *job)
     draw_places(c, job);
     job->references = job->stop = draw_size(c, 0, s->references, s->exactly);
     draw_references(c, job);
+    draw_carried(c, job);
 }
 
-void draw_longest(struct chance *c, struct ref_job *job)
+/* 64 slots and 64 blocks on each disk, all blocks carried in; the references by chance. */
+void draw_longest_ticket(struct chance *c, struct ref_job *job)
 {
-    unsigned last = 0;
-
     job->disks = REF_DISKS;
     job->blocks = REF_BLOCKS;
     job->references = job->stop = REF_REFERENCES;
     for (unsigned d = 0; d < job->disks; d++)
-        job->slots[d] = 1;
-    for (unsigned b = 0; b < job->blocks; b++)
-        job->disk[b] = REF_DISKS - 1;
+        job->slots[d] = REF_SLOTS;
+    for (unsigned b = 0; b < job->blocks; b++) {
+        job->disk[b] = (uint8_t)(b / REF_SLOTS);
+        job->carried[b] = true;
+    }
+    for (unsigned i = 0; i < job->references; i++)
+        job->reference[i] = (uint16_t)below(c, REF_BLOCKS);
+}
+
+/* The same, but that the last disk has one slot; it carries in its first block, and all references are
+ * to it, the first to another block and no two in a row to the same. */
+void draw_longest(struct chance *c, struct ref_job *job)
+{
+    unsigned first = REF_BLOCKS - REF_SLOTS, last = 0;
+
+    draw_longest_ticket(c, job);
+    job->slots[REF_DISKS - 1] = 1;
+    for (unsigned b = first + 1; b < job->blocks; b++)
+        job->carried[b] = false;
     for (unsigned i = 0; i < job->references; i++) {
-        last = (last + between(c, 1, REF_BLOCKS - 1)) % REF_BLOCKS;
-        job->reference[i] = (uint16_t)last;
+        last = (last + between(c, 1, REF_SLOTS - 1)) % REF_SLOTS;
+        job->reference[i] = (uint16_t)(first + last);
     }
 }
 
@@ -235,6 +281,28 @@ struct run {
     unsigned beside_empty;     /* one fetch in so many discards beside an empty slot: 20; 0: none */
     unsigned wise;             /* the discarded block is the last due of so many */
 };
+
+static void read_on(struct run *run)
+{
+    const struct ref_job *job = run->job;
+
+    while (run->next_read < job->stop && run->in[job->reference[run->next_read]])
+        run->next_read++;
+}
+
+/* A run that starts with what the job carries in, read as far as that allows. */
+static struct run begin(const struct ref_job *job)
+{
+    struct run run = {.job = job};
+
+    for (unsigned b = 0; b < job->blocks; b++)
+        if (job->carried[b]) {
+            run.in[b] = true;
+            run.held[job->disk[b]]++;
+        }
+    read_on(&run);
+    return run;
+}
 
 /* Some block of disk d that is in the buffer, or out of it; REF_NONE if there is none. */
 static unsigned some_block(struct chance *c, const struct run *run, unsigned d, bool in)
@@ -330,8 +398,7 @@ static void play_round(struct chance *c, struct run *run, bool demand, struct re
         act(run, d, a);
         actions[d] = a;
     }
-    while (run->next_read < job->stop && run->in[job->reference[run->next_read]])
-        run->next_read++;
+    read_on(run);
 }
 
 /* Rounds after the last reference, put after those that a schedule has: idle all of them, one in
@@ -357,8 +424,11 @@ static unsigned draw_after(struct chance *c, struct run *run, struct ref_action 
 unsigned draw_longer(struct chance *c, const struct ref_job *job, struct ref_action *schedule,
                      unsigned rounds)
 {
-    struct run run = {.job = job, .next_read = job->stop, .idle = between(c, 1, 6), .wise = 1};
+    struct run run = begin(job);
 
+    run.next_read = job->stop;
+    run.idle = between(c, 1, 6);
+    run.wise = 1;
     for (unsigned k = 0; k < rounds * job->disks; k++)
         act(&run, k % job->disks, schedule[k]);
     return draw_after(c, &run, schedule, rounds);
@@ -367,7 +437,7 @@ unsigned draw_longer(struct chance *c, const struct ref_job *job, struct ref_act
 unsigned draw_schedule(struct chance *c, const struct ref_job *job, enum ending ending,
                        struct ref_action *schedule)
 {
-    struct run run = {.job = job};
+    struct run run = begin(job);
     unsigned rounds = 0, lazy = between(c, 2, 6);
 
     run.wise = one_in(c, 2) ? 1 : between(c, 2, 4);
@@ -385,9 +455,19 @@ unsigned draw_schedule(struct chance *c, const struct ref_job *job, enum ending 
     return ending == LATE ? draw_after(c, &run, schedule, rounds) : rounds;
 }
 
+/* Some block that is carried in; if there is none, another. */
+static unsigned some_carried(struct chance *c, const struct ref_job *job)
+{
+    unsigned start = below(c, job->blocks), k = 0;
+
+    while (k < job->blocks && !job->carried[(start + k) % job->blocks])
+        k++;
+    return (start + k) % job->blocks;
+}
+
 static void spoil_action(struct chance *c, const struct ref_job *job, struct ref_action *a)
 {
-    switch (below(c, 10)) {
+    switch (below(c, 12)) {
     case 0: a->fetch = (uint16_t)below(c, REF_BLOCKS); break;
     case 1: a->fetch = (uint16_t)below(c, job->blocks); break;
     case 2: a->fetch = (uint16_t)job->blocks; break;
@@ -396,6 +476,8 @@ static void spoil_action(struct chance *c, const struct ref_job *job, struct ref
     case 5: a->discard = (uint16_t)job->blocks; break;
     case 6: a->discard = a->fetch; break;
     case 7: *a = (struct ref_action){REF_NONE, REF_NONE}; break;
+    case 8: a->fetch = (uint16_t)some_carried(c, job); break;
+    case 9: a->discard = (uint16_t)some_carried(c, job); break;
     default: a->discard = REF_NONE; break;
     }
 }
@@ -468,6 +550,66 @@ static size_t damage(struct chance *c, uint8_t *bytes, size_t len)
     }
 }
 
+/* How many blocks a disk carries in. */
+static unsigned carried_on(const struct ref_job *job, unsigned d)
+{
+    unsigned count = 0;
+
+    for (unsigned b = 0; b < job->blocks; b++)
+        count += job->carried[b] && job->disk[b] == d;
+    return count;
+}
+
+/* The block of which so many that the disk carries in come before. */
+static unsigned carried_at(const struct ref_job *job, unsigned d, unsigned k)
+{
+    unsigned b = 0;
+
+    while (!(job->carried[b] && job->disk[b] == d && k-- == 0))
+        b++;
+    return b;
+}
+
+/* A number for that place which mostly is refused: the one before it, a lower one, one on another disk,
+ * or one that the job has not. */
+static unsigned wrong_number(struct chance *c, const struct ref_job *job, unsigned d, unsigned k)
+{
+    unsigned before = k > 0 ? carried_at(job, d, k - 1) : 0, how = below(c, 5);
+
+    if (k > 0 && how < 3)
+        return how < 2 ? before : below(c, before + 1);
+    for (unsigned b = below(c, job->blocks); how == 3 && b < job->blocks; b++)
+        if (job->disk[b] != d)
+            return b;
+    return job->blocks < REF_BLOCKS ? above(c, job->blocks - 1, 9) : 0;
+}
+
+/* Damage to the fields of the carried blocks, which begin at a bit: a count out of range, one more or
+ * less, a number that is refused, or the end. */
+static size_t damage_carried(struct chance *c, const struct ref_job *job, uint8_t *bytes, size_t at,
+                             size_t len)
+{
+    unsigned d = below(c, job->disks), how = below(c, 7), count, k;
+
+    if (8 * len <= at)
+        return len;
+    if (how == 0)
+        return (at + below(c, 8 * (unsigned)len - (unsigned)at)) / 8;
+    for (unsigned tries = 0; tries < 8 && how > 3 && carried_on(job, d) == 0; tries++)
+        d = below(c, job->disks);
+    count = carried_on(job, d);
+    k = below(c, count);
+    for (unsigned before = 0; before < d; before++)
+        at += 7 + 9 * carried_on(job, before);
+    if (how < 3)
+        poke(bytes, at, 7, above(c, job->slots[d], 7));
+    else if (how == 3 || count == 0)
+        poke(bytes, at, 7, count > 0 && one_in(c, 2) ? count - 1 : count + 1);
+    else
+        poke(bytes, at + 7 + 9 * k, 9, wrong_number(c, job, d, k));
+    return len;
+}
+
 static size_t damage_ticket_once(struct chance *c, const struct ref_job *job, uint8_t *bytes,
                                  size_t len)
 {
@@ -475,7 +617,7 @@ static size_t damage_ticket_once(struct chance *c, const struct ref_job *job, ui
     unsigned d = below(c, job->disks), b = below(c, job->blocks);
     unsigned i = below(c, job->references);
 
-    switch (below(c, 12)) {
+    switch (below(c, 16)) {
     case 0: poke(bytes, 0, 4, zero_or_above(c, REF_DISKS, 4)); return len;
     case 1: poke(bytes, 4 + 7 * d, 7, zero_or_above(c, REF_SLOTS, 7)); return len;
     case 2: poke(bytes, blocks, 10, zero_or_above(c, REF_BLOCKS, 10)); return len;
@@ -489,6 +631,11 @@ static size_t damage_ticket_once(struct chance *c, const struct ref_job *job, ui
         if (job->references > 0 && job->blocks < REF_BLOCKS)
             poke(bytes, references + 12 + 9 * i, 9, above(c, job->blocks - 1, 9));
         return len;
+    case 7:
+    case 8:
+    case 9:
+    case 10:
+        return damage_carried(c, job, bytes, references + 12 + 9 * job->references, len);
     default:
         return damage(c, bytes, len);
     }

@@ -6,11 +6,13 @@
 #include "reference/reference.h"
 
 /* A job within document 01's limits: mostly small, now and then at the very limits, and now and then
- * of the kind on which P-CON waits long. Its stop is N. */
+ * of the kind on which P-CON waits long. Every second one may carry blocks in. Its stop is N. */
 void draw_job(struct chance *c, struct ref_job *job);
 
-/* A job with the longest ticket and the longest page, 2,048 rounds on eight disks: all references
- * are to the last disk, which has one slot, and no two in a row are to the same block. */
+/* A job with the longest ticket: all blocks are carried in, so that it has no rounds. */
+void draw_longest_ticket(struct chance *c, struct ref_job *job);
+
+/* A job with the longest page, 2,048 rounds on eight disks, and a ticket as long as goes with it. */
 void draw_longest(struct chance *c, struct ref_job *job);
 
 /* A stop for a job of so many references: often all of them, else any number, 0 and all but one more

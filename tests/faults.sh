@@ -86,7 +86,7 @@ fault '20 where the slots are full' 'number: library 20, reference 0' \
 fault 'unfinished sheets pass' 'number: library 0, reference 15' 's/return 15;/return 0;/'
 fault 'lowest number among several nevers' 'DISAGREE: s' 's/(distance\[b\] )>=( l->distance\[v->min_block)/\1>\2/'
 fault 'P-CON never waits' 'DISAGREE' 's/rule == REF_P_CON && waits/false \&\& waits/'
-fault 'positions in eight bits' 'number: library 17, reference 0' "/^static void build_lookup/,/^}/s/\\(uint16_t\\)/(uint8_t)/;$at_most_n"
+fault 'positions in eight bits' 'number: library 17, reference 0\|DISAGREE: short sheet' "/^static void build_lookup/,/^}/s/\\(uint16_t\\)/(uint8_t)/;$at_most_n"
 fault 'the position 2048 held as 0' 'number: library 17, reference 0' "s/\\(uint16_t\\)job->stop/(uint16_t)(job->stop % 2048)/;$at_most_n"
 fault 'the mark of equal rounds, on several disks' 'DISAGREE: counts' \
     's/p->mark = choice\(p->counts\)/p->mark = drawn->job.disks > 1 ? p->counts[1].charged < p->counts[0].charged : choice(p->counts)/'
@@ -167,7 +167,7 @@ fault 'a stop of N refused' 'number: library 21, reference' "$(refused 'stop >= 
 fault 'a reference past the stop is no never' 'DISAGREE' "$no_never"
 fault 'the min-block by references past the stop' 'DISAGREE: s' "${in_lookup}s/job->stop/job->references/"
 fault 'planning up to N' 'DISAGREE' '/^static unsigned draw_up/,/^}/s/^        ref_run\(/        drawn->job.stop = drawn->job.references;\n&/'
-fault 'the check up to N' 'number: library 15, reference 0' '/^unsigned ref_check/,/^}/s/number = check_sheet/job.stop = job.references, &/'
+fault 'the check up to N' 'number: library 15, reference 0\|DISAGREE: counts' '/^unsigned ref_check/,/^}/s/number = check_sheet/job.stop = job.references, &/'
 for k in 0 1; do
     fault "sheet $k of a choice up to N" 'number: library 15, reference 0' \
         "/^unsigned ref_choose/,/^}/s/number = check_sheet/job.stop = k == $k ? job.references : (unsigned)stop, &/"
@@ -180,6 +180,8 @@ for call in plan check choose; do
 done
 fault '21 tested before 1' 'number: library 21, reference 1$' "$(first_of 1)"
 fault '21 tested before 8' 'number: library 21, reference 8' "$(first_of 8)"
+fault '21 tested before 25' 'number: library 21, reference 25' "$(first_of 25)"
+fault '21 tested before 26' 'number: library 21, reference 26' "$(first_of 26)"
 fault '21 tested after 17' 'number: library 17, reference 21' "$(before ref_plan 'ns < 2' 17)"
 fault '21 tested after 18' 'number: library 18, reference 21' "$(before ref_plan 'np < 2' 18)"
 fault '21 tested after 9' 'number: library 9, reference 21' "$(before ref_check 'm < 2' 9)"
@@ -212,9 +214,10 @@ all_of() {
 busy="${in_rounds}{s/^        bool left = .*/&\\n        bool busy = false;/;s/^            counts->fetches.*/&\\n            busy = busy || a.fetch != REF_NONE;/}"
 one_early=$(charged 'counts->charged - (counts->charged > 0)')
 reading_rounds="${in_rounds}{s/bool left = .*/unsigned before = next_read;/;s/^        if \\(left \\&\\& .*/        if (next_read > before)/;s/= \\(uint16_t\\)round;/+= 1;/}"
-past_charged="${in_rounds}{s/^    unsigned next_read = 0;/    unsigned next_read = 0, whole = 0;/
+read_whole='while (whole < job->references \&\& s.resident[job->reference[whole]]) whole++;'
+past_charged="${in_rounds}{s/^    unsigned next_read = start.*/&\\n    unsigned whole = next_read;\\n    $read_whole/
     s/^        if \\(left \\&\\& .*/        left = whole < job->references \\&\\& s.resident[job->reference[whole]];\\n/
-    s/^            counts->charged = .*/        while (whole < job->references \\&\\& s.resident[job->reference[whole]])\\n            whole++;\\n        if (left)\\n&/}"
+    s/^            counts->charged = .*/        $read_whole\\n        if (left)\\n&/}"
 fault 'all rounds written are charged, as before L7' 'DISAGREE: counts' "$(charged written)"
 fault 'one round more is charged, where one is written' 'DISAGREE: counts' "$(charged 'counts->charged + (counts->charged < written)')"
 fault 'one round less is charged' 'DISAGREE: counts' "$one_early"
@@ -247,6 +250,95 @@ fault 'a tie goes to the sheet with no more rounds written' 'DISAGREE: counts' \
 fault 'all rounds of the first sheet of a choice are charged' 'DISAGREE: counts' "$(all_of 0 "$written_1")"
 fault 'all rounds of the second sheet of a choice are charged' 'DISAGREE: counts' "$(all_of 1 "$written_2")"
 
+# Blocks carried in
+in_carried='/^static unsigned read_carried/,/^}/'
+in_start='/^static unsigned start/,/^}/'
+in_begin='/^static void begin/,/^}/'
+in_survey='/^static void survey/,/^}/'
+none_carried="${in_start}s/if \\(job->carried\\[b\\]\\)/if (false)/"
+not_held="${in_start}s/^            s->held.*/            ;/"
+nothing_read="${in_start}s/return consume\\(job, s, 0\\);/return 0;/"
+each_carried='for (unsigned d = 0; d < job->disks; d++) counts->fetches[d] += carried_on(job, d);'
+round_for_reading="/^void ref_run/,/^}/s/^        play_round\\(.*/        if (counts->charged == 0 \\&\\& r.next_read > 0) {\\n\
+            memset(schedule, 0xff, job->disks * sizeof *schedule);\\n            schedule += job->disks;\\n            counts->charged++;\\n        }\\n&/"
+
+# late NUMBER WHERE - the script that has 25 or 26 tested later; WHERE is a script that returns late.
+late() {
+    printf 's/^static bool closes/static unsigned late;\\n\\n&/;%s{s/^    memset\\(job->carried.*/    late = 0;\\n&/;s/return %s;/late = late ? late : %s;/}\n%s' \
+        "$in_carried" "$1" "$1" "$2"
+}
+after_list="${in_carried}s/^        \\}\$/&\\n        if (late != 0)\\n            return late;/"
+after_closing="/^static unsigned read_fields/,/^}/s/return closes\\(&r\\) \\? 0 : 8/return closes(\\&r) ? late : 8/"
+
+# starts_empty RULE - the script that has this plan, 0 or 1, start from empty buffers.
+starts_empty() {
+    printf '/^static unsigned draw_up/,/^}/s/^        ref_run\\(&drawn->job, /        struct ref_job other = drawn->job;\\n'\
+'        if (k == %s) memset(other.carried, 0, sizeof other.carried);\\n        ref_run(\\&other, /' "$1"
+}
+
+# last_of BEFORE - the script that has the min-block be the last due of some blocks alone, if it can: b comes before the block that was found where
+# this holds, whichever is due last.
+last_of() {
+    printf '%ss/^            if \\(v->min_block == REF_NONE \\|\\| (.*)\\)$/            if (v->min_block == REF_NONE || (%s != 0 ? %s > 0 : \\1))/' \
+        "$in_survey" "$1" "$1"
+}
+
+fault 'a ticket without counts taken' 'reference 1$' "${in_carried}s/^        if \\(!field\\(r, 7, &count\\)\\)/        if (!field(r, 7, \\&count) \\&\\& (count = 0) > 0)/"
+fault 'a count equal to the slots refused' 'number: library 25, reference' 's/count > job->slots\[d\]/count >= job->slots[d]/'
+fault 'a count of one more than the slots taken' 'reference 25' 's/count > job->slots\[d\]/count > job->slots[d] + 1/'
+fault "a count by disk 0's slots" 'number: library .*25' 's/count > job->slots\[d\]/count > job->slots[0]/'
+fault 'a count above 64 alone refused' 'reference 25' 's/count > job->slots\[d\]/count > REF_SLOTS/'
+fault 'equal numbers taken' 'reference 26' 's/least = v \+ 1;/least = v;/'
+fault 'numbers in any order taken' 'reference 26' 's/v < least \|\| //'
+fault 'block 0 refused as the first number' 'number: library 26, reference' 's/least = 0;  /least = 1;  /'
+fault 'the numbers rise over all disks' 'number: library 26, reference' \
+    's/^        unsigned count, v, least = 0;.*/        static unsigned least;\n        unsigned count, v;\n\n        least = d == 0 ? 0 : least;/'
+fault 'a carried block of B taken' 'reference 26' "${in_carried}s/^            if \\(v < least/            if (v == job->blocks) v--;\\n&/"
+fault 'a carried block of another disk taken' 'reference 26' "${in_carried}s/ \\|\\| job->disk\\[v\\] != d\\)/)/"
+fault '26 for 25' 'number: library 26, reference 25' 's/return 25;/return 26;/'
+fault '25 for 26' 'number: library 25, reference 26' 's/return 26;/return 25;/'
+fault '25 tested after the numbers' 'reference 25' "$(late 25 "$after_list")"
+fault '25 tested after 8' 'reference 25' "$(late 25 "$after_closing")"
+fault '26 tested after the list' 'reference 26' "$(late 26 "$after_list")"
+fault '26 tested after 8' 'reference 26' "$(late 26 "$after_closing")"
+fault '25 for the end inside a count' 'number: library 25, reference 1$' "${in_carried}{/field\\(r, 7/{n;s/return 1;/return 25;/}}"
+fault '26 for the end inside a number' 'number: library 26, reference 1$' "${in_carried}{/field\\(r, 9/{n;s/return 1;/return 26;/}}"
+fault 'carried blocks are not in the buffers' 'DISAGREE' "$none_carried"
+fault 'carried blocks are not in the buffers before a stop' 'DISAGREE' \
+    "${in_start}s/if \\(job->carried\\[b\\]\\)/if (job->carried[b] \\&\\& job->stop == job->references)/"
+fault 'carried blocks take no slot' 'DISAGREE' "$not_held"
+fault 'carried blocks take slots of disk 0' 'DISAGREE' "${in_start}s/held\\[job->disk\\[b\\]\\]/held[0]/"
+fault 'nothing is read before round 1' 'DISAGREE' "$nothing_read"
+fault 'one reference is read before round 1' 'DISAGREE' "${in_start}s/return consume\\(job, s, 0\\);/return consume(job, s, 0) > 0;/"
+fault 'distances from the first reference, though some are read' 'DISAGREE\|number: library 17' "${in_begin}s/^    keep_up.*/    ;/;$at_most_n"
+fault 'P-MIN starts empty' 'DISAGREE' "$(starts_empty 0)"
+fault 'P-CON starts empty' 'DISAGREE' "$(starts_empty 1)"
+fault 'the check starts empty' 'DISAGREE' "${in_rounds}s/= start\\(job, &s\\);/= (memset(\\&s, 0, sizeof s), 0);/"
+fault 'the check reads nothing before round 1' 'DISAGREE' "${in_rounds}s/= start\\(job, &s\\);/= (start(job, \\&s), 0);/"
+for k in 0 1; do
+    other="struct ref_job other = job;\\n        if (k == $k) memset(other.carried, 0, sizeof other.carried);"
+    fault "sheet $k of a choice starts empty" 'in planner_choose' \
+        "/^unsigned ref_choose/,/^}/s/^        number = check_sheet\\(&job,(.*)/        {\\n        $other\\n        number = check_sheet(\\&other,\\1\\n        }/"
+done
+fault 'a fetched block goes before any carried one' 'DISAGREE' "$(last_of '(job->carried[v->min_block] - job->carried[b])');$at_most_n"
+fault 'of several nevers a carried one goes first' 'DISAGREE: s' \
+    "$(last_of '(l->distance[b] == l->distance[v->min_block] ? job->carried[b] - job->carried[v->min_block] : 0)')"
+fault '12 not tested for carried blocks' 'reference 12' '/^static unsigned check_action/,/^}/s/^    if \(s->resident\[v\]\)/    if (s->resident[v] \&\& !job->carried[v])/'
+fault '14 for carried blocks' 'number: library 14, reference' \
+    '/^static unsigned check_action/,/^}/s/ \|\| !s->resident\[v\]\)/ || !s->resident[v] || job->carried[v])/'
+fault 'a carried block is a fetch in the check' 'DISAGREE: counts' "${in_rounds}s/^    unsigned next_read = .*/&\\n    $each_carried/"
+fault 'a carried block is a fetch in the plans' 'DISAGREE: counts' "/^void ref_run/,/^}/s/^    memset\\(counts.*/&\\n    $each_carried/"
+fault 'the reading before round 1 takes a round of a plan' 'DISAGREE' "$round_for_reading"
+fault 'a sheet without rounds refused, though all is read before round 1' 'number: library 15, reference 0' \
+    "${in_rounds}s/^    if \\(next_read < job->stop\\)/    if (next_read < job->stop || (written == 0 \\&\\& job->stop > 0))/"
+fault 'all rounds charged where all is read before them' 'DISAGREE: counts' "$(charged 'counts->charged == 0 \&\& job->stop > 0 ? written : counts->charged')"
+
+# From the carried blocks no sheet beats a plan, and a plan's sheet with rounds after it passes.
+both 'the reading before round 1 takes a round of a plan' 'beats a plan (demand 3)\|other counts' "$round_for_reading"
+both 'a carried block is a fetch in the plans' 'beats a plan (demand 3)\|other counts' "/^void ref_run/,/^}/s/^    memset\\(counts.*/&\\n    $each_carried/"
+both 'all rounds charged where all is read before them' 'with rounds after it is refused, or has other counts' \
+    "$(charged 'counts->charged == 0 \&\& job->stop > 0 ? written : counts->charged')"
+
 # A plan's sheet with rounds after it is charged as the plan, and a plan is not beaten by rounds that are not charged.
 both 'all rounds written are charged' 'with rounds after it is refused, or has other counts' "$(charged written)"
 both 'none charged only where none is written' 'with rounds after it is refused, or has other counts' "$(charged 'job->stop == 0 ? written : counts->charged')"
@@ -274,7 +366,7 @@ idle_rounds() {
 d_idle=$(idle_rounds 'job->disks > 1 \&\& counts->charged < job->disks')
 idle_on_one=$(idle_rounds 'job->disks == 1 \&\& counts->charged == 0')
 marked_on_one='s/p->mark = choice\(p->counts\)/p->mark = drawn->job.disks > 1 \&\& choice(p->counts)/'
-fault 'P-CON begins with an idle round, on one disk' 'takes other rounds than the short one' "$idle_on_one"
+fault 'P-CON begins with an idle round, on one disk' 'takes other rounds than the short one\|number: library 18, reference 0' "$idle_on_one"
 fault 'P-MIN marked on one disk' 'on one disk the short plan is marked' "$marked_on_one"
 both 'P-CON begins with D idle rounds, on several disks' 'more than D times the rounds' "$d_idle"
 both 'P-CON begins with an idle round, on one disk' 'takes other rounds than the short one' "$idle_on_one"

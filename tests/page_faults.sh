@@ -2,7 +2,7 @@
 #
 # usage: sh page_faults.sh BUILD     (program_faults.sh says what BUILD has)
 cd "$(dirname "$0")" || exit 2
-test=pages program=page count=300
+test=pages program=page count=400
 . ./program_faults.sh
 
 another='cases gives another answer'
@@ -58,6 +58,27 @@ fault '21 before 8' 'cases     21' "${in_reading}s/^    if \\(number != 0\\)\$/ 
 fault '21 after 17' 'reference 21' "${in_page}s/^    if \\(number != 0\\)\$/    if (number == 21 \\&\\& ns < 2) return 17;\\n&/"
 fault '21 after 19' 'reference 21' "${in_page}s/^    if \\(number != 0\\)\$/    if (number == 21 \\&\\& ng < 85) return 19;\\n&/"
 
+# Blocks carried in
+in_start='/^static unsigned start/,/^}/'
+in_carried='/^static unsigned read_carried/,/^}/'
+fault 'carried blocks are not in the buffers' "$another" "${in_start}s/if \\(job->carried\\[b\\]\\)/if (false)/"
+fault 'carried blocks take no slot' "$another" "${in_start}s/^            s->held.*/            ;/"
+fault 'nothing is read before round 1' "$another" "${in_start}s/return consume\\(job, s, 0\\);/return 0;/"
+fault 'the page starts empty' "$another" 's/^    write_page\(/    if (ng >= REF_PAGE) memset(drawn.job.carried, 0, sizeof drawn.job.carried);\n&/'
+fault 'the reading before round 1 counted as a round' "$another" 's/^    unsigned round = 0;/    unsigned round = 1;/'
+for k in 0 1; do
+    other="struct ref_job other = drawn->job;\\n        if (k == $k) memset(other.carried, 0, sizeof other.carried);"
+    fault "plan $k starts empty" "$another" "/^static unsigned draw_up/,/^}/s/^        ref_run\\(&drawn->job, /        $other\\n        ref_run(\\&other, /"
+done
+fault 'a count equal to the slots refused' 'cases     25' 's/count > job->slots\[d\]/count >= job->slots[d]/'
+fault 'no count refused' 'reference 25' 's/count > job->slots\[d\]/count > 127/'
+fault 'equal numbers taken' 'reference 26' 's/least = v \+ 1;/least = v;/'
+fault 'a carried block of another disk taken' 'reference 26' "${in_carried}s/ \\|\\| job->disk\\[v\\] != d\\)/)/"
+fault '26 for 25' 'reference 25' 's/return 25;/return 26;/'
+fault '21 before 26' 'cases     21' "${in_reading}s/^    if \\(number != 0\\)\$/    if (number == 26 \\&\\& stop > ref_references(ticket, n)) return 21;\\n&/"
+fault 'a ticket without counts taken' 'reference 1' \
+    "${in_carried}s/^        if \\(!field\\(r, 7, &count\\)\\)/        if (!field(r, 7, \\&count) \\&\\& (count = 0) > 0)/"
+
 # The program `cases` alone
 fault 'the last byte of a page not written' "$another" 's/page.at, p.length\);$/page.at, p.length - 1);/'
 fault 'sheets exchanged beside a page' "$another" 's/put_planned\(to, &p.planned, p_min.at, p_con.at\)/put_planned(to, \&p.planned, p_con.at, p_min.at)/'
@@ -75,7 +96,7 @@ fault 'no more than 278,612 bytes printed' '278613; byte 278612 differs' \
 fault 'room for all pages but the longest' 'page prints 11 bytes' 's/REF_SHEET, text, REF_PAGE,/REF_SHEET, text, REF_PAGE - 1,/'
 fault 'no line feed after a refusal' 'page prints 9 bytes, the reference has 10' 's/"refused %u.n"/"refused %u"/'
 fault 'another number' 'page prints 10 bytes, the reference has 10' 's/printf\("refused %u.n", number\)/printf("refused %u\\n", number == 8 ? 1 : number)/'
-fault 'a longer input cut to the longest ticket' 'page prints 278613 bytes, the reference has 10' 's/ticket\[REF_TICKET \+ 1\]/ticket[REF_TICKET]/'
+fault 'a longer input cut to the longest ticket' 'page prints 85 bytes, the reference has 10' 's/ticket\[REF_TICKET \+ 1\]/ticket[REF_TICKET]/'
 fault 'a status that is not 0' 'page ends with status 3' 's/^        page\(\);/        return page(), 3;/'
 fault 'no reference counts' 'page prints' 's/ref_page\(ticket, n, ref_references\(ticket, n\)/ref_page(ticket, n, 0/'
 fault 'all references but one count' 'page prints' 's/ref_page\(ticket, n, ref_references\(ticket, n\)/ref_page(ticket, n, ref_references(ticket, n) - 1/'

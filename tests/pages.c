@@ -2,11 +2,12 @@
  *
  * usage: pages CASES PAGE [SEED [COUNT [FIRST]]]
  * Draws COUNT jobs from number FIRST on (default 0). CASES gets lines `page` of the vectors' form,
- * four for each job, and four of the longest page; PAGE, whose stop is N, gets the tickets of the
- * first jobs, the longest page's, and inputs that are longer than a ticket. Ends at the first answer
- * that is not the reference's. Every job's draws depend on the seed and its own number only, so
- * "SEED 1 FIRST" replays one job, and "SEED 0" what is tried without a job. Exit 0 only if all agree
- * and, in a run of jobs from 0 on, every number, kind of stop, letter and mark was met. */
+ * four for each job, four of the longest page and four of the longest ticket; PAGE, whose stop is N,
+ * gets the tickets of the first jobs, these two, and inputs that are longer than a ticket. Ends at the
+ * first answer that is not the reference's. Every job's draws depend on the seed and its own number
+ * only, so "SEED 1 FIRST" replays one job, and "SEED 0" what is tried without a job. Exit 0 only if all
+ * agree and, in a run of jobs from 0 on, every number, kind of stop and of job, letter and mark was
+ * met. */
 #include "draw.h"
 #include "reference/answer.h"
 #include "running.h"
@@ -15,15 +16,22 @@
 #include <stdlib.h>
 #include <string.h>
 
-enum { LINES = 4, NUMBERS = 22, LETTERS = 5 };
+enum { LINES = 4, NUMBERS = 27, LETTERS = 5 };
 enum { PROGRAM_JOBS = 150 };   /* the program `page` gets the tickets of so many jobs */
 enum { LONGER = 100000 };      /* and so many bytes past a ticket */
 enum { NO_JOB = -1 };          /* what is tried without a job */
 
 enum kind { NONE, BETWEEN, WHOLE, ABOVE, KINDS };      /* stops: 0, in between, N, above N */
+enum longest { OF_PAGES, OF_TICKETS };
+
+/* Jobs with a page, by what they carry in: nothing; blocks of which none, some or all that count are
+ * read before round 1. */
+enum carried { EMPTY, UNREAD, IN_PART, IN_WHOLE, CARRIED };
 
 static const char letters[LETTERS + 1] = "EMSWN";
 static const char *const kind_name[KINDS] = {"0", "in between", "N", "above N"};
+static const char *const carried_name[CARRIED] = {"nothing", "blocks that are not next",
+                                                  "blocks read before round 1 in part", "to the stop"};
 
 static struct {
     const char *cases, *page;
@@ -31,7 +39,7 @@ static struct {
     int64_t job;
     unsigned long met[2][NUMBERS];             /* numbers, by cases and by page */
     unsigned long stops[KINDS];                /* of cases, where the answer is 0 or 21 */
-    unsigned long letter[LETTERS], mark[2];    /* on the pages of cases */
+    unsigned long letter[LETTERS], mark[2], carried[CARRIED];  /* on the pages of cases */
 } run;
 
 /* ---- Reports ---- */
@@ -99,6 +107,7 @@ struct asked {
 
 static struct {
     uint8_t ticket[REF_TICKET], worse[REF_TICKET + SPARE], sheet[2][REF_SHEET], page[REF_PAGE];
+    struct ref_job job;
     struct ref_paged paged;    /* of the ticket as it is, up to the first line's stop */
     struct asked asked[LINES];
 } drawn;
@@ -140,17 +149,17 @@ static void plan_drawn(size_t n, size_t stop, size_t *exact)
 static void draw_lines(uint64_t number)
 {
     struct chance c = chance_for(run.seed, number);
-    static struct ref_job job;
+    struct ref_job *job = &drawn.job;
     struct bytes good = {drawn.ticket, 0}, worse = {drawn.worse, 0};
     size_t exact[3], stop, above;
 
-    draw_job(&c, &job);
-    good.len = ref_write_ticket(&job, drawn.ticket, sizeof drawn.ticket);
-    stop = draw_stop(&c, job.references);
-    above = draw_stop_above(&c, job.references);
+    draw_job(&c, job);
+    good.len = ref_write_ticket(job, drawn.ticket, sizeof drawn.ticket);
+    stop = draw_stop(&c, job->references);
+    above = draw_stop_above(&c, job->references);
     plan_drawn(good.len, stop, exact);
     memcpy(drawn.worse, drawn.ticket, good.len);
-    worse.len = damage_ticket(&c, &job, drawn.worse, good.len);
+    worse.len = damage_ticket(&c, job, drawn.worse, good.len);
     memcpy(drawn.asked[0].room, exact, sizeof exact);
     for (unsigned k = 0; k < LINES; k++) {
         drawn.asked[k].ticket = k == 3 ? worse : good;
@@ -160,21 +169,24 @@ static void draw_lines(uint64_t number)
     }
 }
 
-/* The lines of the longest page: exact rooms; 19; 18; 21. */
-static void draw_longest_lines(void)
+/* The lines of the longest page or of the longest ticket: exact rooms; 19; 18; 21. */
+static void draw_longest_lines(enum longest longest)
 {
     struct chance c = chance_for(run.seed, 0);
-    static struct ref_job job;
+    struct ref_job *job = &drawn.job;
     size_t exact[3], n;
 
-    draw_longest(&c, &job);
-    n = ref_write_ticket(&job, drawn.ticket, sizeof drawn.ticket);
-    plan_drawn(n, job.stop, exact);
-    if (n != REF_TICKET || exact[2] != REF_PAGE)
+    if (longest == OF_PAGES)
+        draw_longest(&c, job);
+    else
+        draw_longest_ticket(&c, job);
+    n = ref_write_ticket(job, drawn.ticket, sizeof drawn.ticket);
+    plan_drawn(n, job->stop, exact);
+    if (longest == OF_PAGES ? exact[2] != REF_PAGE : n != REF_TICKET)
         exit(2);
     for (unsigned k = 0; k < LINES; k++) {
         drawn.asked[k].ticket = (struct bytes){drawn.ticket, n};
-        drawn.asked[k].stop = job.stop + (k == 3);
+        drawn.asked[k].stop = job->stop + (k == 3);
         drawn.asked[k].room[0] = exact[0];
         drawn.asked[k].room[1] = exact[1] - (k > 1);
         drawn.asked[k].room[2] = exact[2] - (k > 0);
@@ -190,7 +202,7 @@ static char *put_call(char *to, const struct asked *a)
     return to + sprintf(to, " %zu %zu %zu %zu", a->stop, a->room[0], a->room[1], a->room[2]);
 }
 
-/* Does the same for the lines of each job, and then for those of the longest page. */
+/* Does the same for the lines of each job, and then for those of the longest page and ticket. */
 static void each_job(void (*with)(const struct asked *, FILE *), FILE *file)
 {
     for (uint64_t k = 0; k < run.count; k++) {
@@ -202,9 +214,11 @@ static void each_job(void (*with)(const struct asked *, FILE *), FILE *file)
     run.job = NO_JOB;
     if (run.first != 0)
         return;
-    draw_longest_lines();
-    for (unsigned line = 0; line < LINES; line++)
-        with(&drawn.asked[line], file);
+    for (unsigned k = 0; k < 2; k++) {
+        draw_longest_lines(k == 0 ? OF_PAGES : OF_TICKETS);
+        for (unsigned line = 0; line < LINES; line++)
+            with(&drawn.asked[line], file);
+    }
 }
 
 static void write_line(const struct asked *a, FILE *file)
@@ -229,7 +243,22 @@ static enum kind kind_of(const struct asked *a)
     return a->stop == 0 ? NONE : BETWEEN;
 }
 
-/* Counts the answer's number and the stop; and with exact rooms, the page's mark and letters. */
+/* What the job that was drawn carries in, up to its stop. */
+static enum carried carried_of(size_t stop)
+{
+    const struct ref_job *job = &drawn.job;
+    bool any = false;
+    size_t next_read = 0;
+
+    for (unsigned b = 0; b < job->blocks; b++)
+        any = any || job->carried[b];
+    while (next_read < stop && job->carried[job->reference[next_read]])
+        next_read++;
+    return !any ? EMPTY : next_read == 0 ? UNREAD : next_read < stop ? IN_PART : IN_WHOLE;
+}
+
+/* Counts the answer's number and the stop; and with exact rooms, the page's mark and letters, and what
+ * the job carries in. */
 static void count(const struct asked *a, const char *text)
 {
     unsigned long number = strtoul(text, NULL, 10);
@@ -240,6 +269,7 @@ static void count(const struct asked *a, const char *text)
     if (number != 0 || a != &drawn.asked[0])
         return;
     run.mark[drawn.paged.planned.mark]++;
+    run.carried[carried_of(a->stop)]++;
     for (size_t at = REF_LINE - 2; at < drawn.paged.length - REF_LEGEND * REF_LINE; at += REF_LINE)
         run.letter[strchr(letters, drawn.page[at]) - letters]++;
 }
@@ -324,7 +354,9 @@ static void try_program(void)
     run.job = NO_JOB;
     if (run.first != 0)
         return;
-    draw_longest_lines();
+    draw_longest_lines(OF_PAGES);
+    try_page(drawn.asked[0].ticket);
+    draw_longest_lines(OF_TICKETS);
     try_page(drawn.asked[0].ticket);
     try_page((struct bytes){drawn.ticket, 0});
     for (unsigned k = 0; k < 2; k++) {
@@ -345,7 +377,7 @@ static bool all_met(void)
     for (unsigned by = 0; by < 2; by++) {
         printf("  %s:", by == 0 ? "cases" : "page");
         for (unsigned k = 0; k < NUMBERS; k++)
-            if (k <= 8 || (by == 0 && k >= 17 && k != 20)) {
+            if (k <= 8 || k >= 25 || (by == 0 && ((k >= 17 && k <= 19) || k == 21))) {
                 printf(" %u:%lu", k, run.met[by][k]);
                 all = all && run.met[by][k] > 0;
             }
@@ -355,6 +387,11 @@ static bool all_met(void)
     for (unsigned k = 0; k < KINDS; k++) {
         printf("%s %s %lu", k == 0 ? "" : ",", kind_name[k], run.stops[k]);
         all = all && run.stops[k] > 0;
+    }
+    printf("\n  carried in:");
+    for (unsigned k = 0; k < CARRIED; k++) {
+        printf("%s %s %lu", k == 0 ? "" : ",", carried_name[k], run.carried[k]);
+        all = all && run.carried[k] > 0;
     }
     printf("\n  letters:");
     for (unsigned k = 0; k < LETTERS; k++) {
@@ -385,6 +422,7 @@ int main(int argc, char **argv)
     printf("%" PRIu64 " jobs agree (seed %" PRIu64 "); numbers met:\n", run.count, run.seed);
     all = all_met();
     if (!all && run.first == 0 && run.count > 0)
-        printf("FAIL: a number, a kind of stop, a letter or a mark was never met\n");
+        printf("FAIL: a number, a kind of stop or of carried blocks, a letter or a mark was never "
+               "met\n");
     return all || run.first != 0 || run.count == 0 ? 0 : 1;
 }

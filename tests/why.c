@@ -20,7 +20,8 @@ static const char *const words[] = {
     "are left", "sheet's closing",
     "short sheet", "sparing sheet", "page",
     "is empty", "stop is above",
-    "malformed", "parentheses", "slice has entries"
+    "malformed", "parentheses", "slice has entries",
+    "carries in more", "a carried block"
 };
 
 enum { NUMBERS = sizeof words / sizeof words[0] };

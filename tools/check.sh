@@ -72,7 +72,7 @@ ends()
     run eval 'sheet "$out/ticket" "$out/sheet" | tail -n "$lines"'
 }
 
-# Cases A to G: from text to ticket and back, and both sheets.
+# Cases A to G and one with carried blocks: from text to ticket and back, and both sheets.
 cases()
 {
     while read -r case ticket p_min p_con; do
@@ -87,12 +87,13 @@ cases()
     show 'G, P-CON, with names' "$G" "$G_P_CON" -n cases/G.names
 }
 
-# The greatest job: 8 disks, 512 blocks turn by turn, 2048 references.
+# The greatest job: 8 disks, 512 blocks turn by turn, all of them carried in, 2048 references.
 longest_text()
 {
     for d in 0 1 2 3 4 5 6 7; do
         echo "disk $d slots 64"
         seq "$d" 8 511 | sed 's/^/  blocks /'
+        seq "$((504 + d))" -8 0 | sed 's/^/  carried /'
     done
     for turn in 1 2 3 4; do
         seq 511 -1 0 | sed "s/^/read /;1s/\$/  # turn $turn/"
@@ -106,7 +107,7 @@ good()
     run eval 'longest_text | ticket - "$out/ticket"'
     wc -c <"$out/ticket" | tr -d ' '
     run ticket -d "$out/ticket" "$out/text"
-    sed -n '1,6p;$p' "$out/text"
+    sed -n '1,9p;$p' "$out/text"
     run eval 'ticket <"$out/text" | cmp - "$out/ticket"'
     echo '== one reference more'
     run eval '{ longest_text; echo read 0; } | ticket'
@@ -235,7 +236,61 @@ passes()
     text 'no blank after the word' "$(printf 'disk 0 slots 1 blocks 0\npasses(0)')"
 }
 
-# Damaged tickets, in the order of the numbers 1 to 8.
+# Blocks that a disk carries in, in texts: good ones, then the numbers 25 and 26, then those without a number.
+carried()
+{
+    text 'in any order, in ranges, on several lines' "$(printf 'disk 0 slots 5 blocks 0-7\n  carried 6 0-2\ncarried 4 # at most 5\ndisk 1 slots 1\nread 3')"
+    run ticket -d "$out/ticket"
+    text 'every block in a slot' "$(printf 'disk 0 slots 2 blocks 1 3\ncarried 3 1\ndisk 1 slots 64 blocks 0 2\ncarried 0 2')"
+    run ticket -d "$out/ticket"
+    text 'lines without blocks' "$(printf 'disk 0 slots 1 blocks 0\ncarried\n  blocks 1\n  carried\n  carried 1\n  carried # 0')"
+    run ticket -d "$out/ticket"
+    text '25: three blocks in two slots' "$(printf 'disk 0 slots 2 blocks 0-3\ncarried 3 1 2')"
+    text '25: on two lines' "$(printf 'disk 0 slots 1 blocks 0-3\ndisk 1 slots 1 blocks 4-7\ncarried 4\ncarried 5')"
+    text '25: before 26' "$(printf 'disk 0 slots 1 blocks 0-3\ncarried 0 9')"
+    text '26: a block twice' "$(printf 'disk 0 slots 8 blocks 0-3\ncarried 1-3 2')"
+    text '26: a block of a disk above' "$(printf 'disk 0 slots 4 blocks 0-3\ndisk 1 slots 4 blocks 4-7\n\ncarried 4 3')"
+    text '26: a block of a disk below' "$(printf 'disk 0 slots 4 blocks 0-3\ncarried 3-4\ndisk 1 slots 4 blocks 4-7')"
+    text '26: a block that is not there' "$(printf 'disk 0 slots 4 blocks 0-3\ncarried 4')"
+    text '26: block 512' "$(printf 'disk 0 slots 4 blocks 0-3\ncarried 512')"
+    text 'before the first disk' 'carried 0'
+    text 'blocks placed after it' "$(printf 'disk 0 slots 4 blocks 0-2\ncarried 0\nblocks 3')"
+    text 'after a read' "$(printf 'disk 0 slots 4 blocks 0-3\nread 0\ncarried 1')"
+    text 'a range backwards' "$(printf 'disk 0 slots 4 blocks 0-3\ncarried 3-0')"
+    text 'in words' "$(printf 'disk 0 slots 4 blocks 0-3\ncarried none')"
+    text 'in the line of the disk' 'disk 0 slots 4 blocks 0-3 carried 0'
+}
+
+# Sheets for tickets with carried blocks. The job `held` reads 1 and 0 before round 1, then needs block 2. In `never` the slots are taken by blocks that
+# are never read. In `one` disk 0 has an empty slot, and disk 1 carries in none.
+starts()
+{
+    held=$(printf 'disk 0 slots 2 blocks 0-2\ncarried 0 1\nread 1 0 2 1' | ticket | hex)
+    never=$(printf 'disk 0 slots 2 blocks 0-3\ncarried 2 3\nread 0 1' | ticket | hex)
+    one=$(printf 'disk 0 slots 2 blocks 0 1\ncarried 1\ndisk 1 slots 1 blocks 2\nread 1 0 2 1' | ticket | hex)
+    show 'a carried block makes room' "$held" 00180a00
+    show 'the next read is carried in, disk 1 is empty' "$one" 0018010100
+    show 'slots taken by blocks that are never read' "$never" 00280203806020
+    show 'all is read before round 1' "$held" 0000 -s 2
+    show 'the same, with a fetch and an idle round, which are not charged' "$held" 00280a0000 -s 2
+    show 'an idle round, which is charged' "$held" 0024050000
+    show 'a carried block fetched again is a fetch' "$held" 00280a00802010
+    show 'a stop in what is read before round 1' "$held" 0000 -s 1
+    show 'a stop at the start' "$held" 0000 -s 0
+    show 'with names, up to 13' "$CARRIED" 0038090340f01c0503c09014070240e0 -n cases/G.names -s 13
+    show '9: empty' "$held" ''
+    show '9: inside round 1' "$held" 00180a
+    show '12: a carried block' "$held" 001804
+    show '13: every slot is taken by carried blocks' "$held" 001808
+    show '14: the fetched block itself' "$held" 00180a02
+    show '15: no rounds' "$held" 0000
+    show '16: a byte more' "$held" 000000 -s 2
+    show '20: a discard beside an empty slot' "$one" 00180201
+    show 'the sheet of the same job without carried blocks' "$CARRIED" "$G_P_MIN"
+    show 'a sheet from carried blocks, for the job without them' "$G" 0048090340f01c0503c09014070240f01c04
+}
+
+# Damaged tickets, in the order of the numbers 1 to 7, 25, 26 and 8.
 tickets()
 {
     back '1: empty' ''
@@ -244,6 +299,9 @@ tickets()
     back '1: inside the disk of a block' 20204040
     back '1: inside the references' 102008
     back '1: inside a reference' 1020080010
+    back '1: inside the number of carried blocks' 102008001000
+    back '1: inside that of the last disk' 20408040090020000800
+    back '1: inside a carried block' 10200800100010
     back '2: no disks' 00
     back '2: nine disks' 90
     back '3: no slots' 1000
@@ -253,9 +311,21 @@ tickets()
     back '5: block 0 on disk 1 of one' 102009001000
     back '6: 2049 references' 102008801000
     back '7: block 1 of one' 102008001008
-    back '8: a closing bit' 102008001001
-    back '8: a byte more' 10200800100000
-    back '8: a byte more, past a byte edge' 10200800400000000000
+    back '25: three blocks in two slots' 2040804009002000081800020100
+    back '25: of the last disk' 204080400900200008080018080603
+    back '25: before the end inside the blocks' 10200800100020
+    back '26: numbers that fall' 20408040090020000810040000
+    back '26: numbers that fall, of the last disk' 2040804009002000080800100c04
+    back '26: a block twice' 20408040090020000810040200
+    back '26: a block that is not there' 20408040090020000810000800
+    back '26: a block of a disk after it' 204080400900200008080800
+    back '26: a block of a disk before it' 204080400900200008001008
+    back '26: before the end inside the next number' 204080400900200008100c
+    back '26: before 8' 102008001000100900
+    back '8: a closing bit' 10200800100001
+    back '8: a closing bit after a carried block' 1020080010001001
+    back '8: a byte more' 1020080010000000
+    back '8: a byte more, past a byte edge' 102008005000000000000000
     show 'a sheet for a damaged ticket' 102009001000 001800
 }
 
@@ -332,7 +402,9 @@ stops()
     show '21: 1, if 64 bits were kept' "$A" 001800 -s 18446744073709551617
     show '21: before 9' "$G" '' -s 22
     show '21: before names for other blocks' "$A" 001800 -n cases/G.names -s 2
-    show '8: before 21' 102008001001 001800 -s 2
+    show '8: before 21' 10200800100001 001800 -s 2
+    show '25: before 21' 10200800100020 001800 -s 2
+    show '26: before 21' 1020080010001008 001800 -s 2
 }
 
 # The largest factors known: each text gives a ticket of the vectors in tests/, whose two sheets are then shown, their last round and the totals.
@@ -373,15 +445,16 @@ vector()
 A=$(vector A 1) B=$(vector B 1) C=$(vector C 1) D=$(vector D 1) F=$(vector F 1) F_P_MIN=$(vector F 2)
 G=$(vector G 1) G_P_MIN=$(vector G 2) G_P_CON=$(vector G 3)
 G_TO_13=0058010220140a809032038090140703c0c0
+CARRIED=$(vector carried 1)
 bad=0
-for group in cases good texts passes tickets sheets charged stops waits usage; do
+for group in cases good texts passes carried tickets sheets charged stops starts waits usage; do
     $group >"$out/$group.out"
     diff -u "expected/$group.out" "$out/$group.out" || bad=1
 done
-for number in $(seq 1 16) 20 21; do
+for number in $(seq 1 16) 20 21 25 26; do
     grep -q "^refused $number: " "$out"/*.out || { echo "number $number is not met"; bad=1; }
 done
-for number in 22 23 24; do
+for number in 22 23 24 25 26; do
     grep -q "^line [0-9]*: refused $number: " "$out"/*.out || { echo "number $number is not met"; bad=1; }
 done
 [ $bad -eq 0 ] && echo 'check: all as expected'

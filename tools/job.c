@@ -89,12 +89,63 @@ static bool read_references(struct fields *f, struct job *job, struct refusal *r
     return true;
 }
 
+/* The next block that disk d carries in; least is 1 more than the one before it, or 0. */
+static bool read_carried_block(struct fields *f, struct job *job, unsigned d, unsigned *least,
+                               struct refusal *refusal)
+{
+    unsigned b;
+
+    if (!take(f, 9, &b))
+        return refuse(refusal, 1, "the ticket ends inside a block that disk %u carries in", d);
+    if (b < *least)
+        return refuse(refusal, 26, "disk %u carries in block %u after block %u, and the numbers "
+                      "must rise", d, b, *least - 1);
+    if (b >= job->blocks)
+        return refuse(refusal, 26, "disk %u carries in block %u, and the last block is %u", d, b,
+                      job->blocks - 1);
+    if (job->disk_of[b] != d)
+        return refuse(refusal, 26, "disk %u carries in block %u, which lies on disk %u", d, b,
+                      job->disk_of[b]);
+    job->carried[b] = true;
+    *least = b + 1;
+    return true;
+}
+
+static bool read_carried(struct fields *f, struct job *job, struct refusal *refusal)
+{
+    memset(job->carried, 0, sizeof job->carried);
+    for (unsigned d = 0; d < job->disks; d++) {
+        unsigned count, least = 0;
+
+        if (!take(f, 7, &count))
+            return refuse(refusal, 1, "the ticket ends inside the number of blocks that disk %u "
+                          "carries in", d);
+        if (count > job->slots[d])
+            return refuse(refusal, 25, "disk %u carries in %u blocks, and has %u slot%s", d, count,
+                          job->slots[d], job->slots[d] == 1 ? "" : "s");
+        for (; count > 0; count--)
+            if (!read_carried_block(f, job, d, &least, refusal))
+                return false;
+    }
+    return true;
+}
+
 bool read_ticket(const uint8_t *ticket, size_t length, struct job *job, struct refusal *refusal)
 {
     struct fields f = {ticket, length, 0};
 
     return read_disks(&f, job, refusal) && read_blocks(&f, job, refusal)
-        && read_references(&f, job, refusal) && closes(&f, 8, refusal);
+        && read_references(&f, job, refusal) && read_carried(&f, job, refusal)
+        && closes(&f, 8, refusal);
+}
+
+unsigned carried_on(const struct job *job, unsigned d)
+{
+    unsigned count = 0;
+
+    for (unsigned b = 0; b < job->blocks; b++)
+        count += job->carried[b] && job->disk_of[b] == d;
+    return count;
 }
 
 size_t read_bytes(const char *path, uint8_t *bytes, size_t room)

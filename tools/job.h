@@ -14,7 +14,7 @@ enum {
     MAX_BLOCKS = 512,
     MAX_REFERENCES = 2048,
     MAX_ROUNDS = 2048,
-    LONGEST_TICKET = 2507,
+    LONGEST_TICKET = 3090,
     LONGEST_SHEET = 40962
 };
 
@@ -25,6 +25,7 @@ struct job {
     unsigned disks, slots[MAX_DISKS];
     unsigned blocks, disk_of[MAX_BLOCKS];
     unsigned references, reference[MAX_REFERENCES];
+    bool carried[MAX_BLOCKS];  /* whether the block is in its disk's buffer at the start */
 };
 
 /* Bytes read as fields, most significant bit first. */
@@ -47,6 +48,9 @@ bool take(struct fields *f, unsigned width, unsigned *value);
 
 /* Whether nothing but the closing zero bits is left; number is for the refusal. */
 bool closes(struct fields *f, unsigned number, struct refusal *refusal);
+
+/* How many blocks a disk carries in. */
+unsigned carried_on(const struct job *job, unsigned d);
 
 /* Ticket to job; false if the ticket is refused. */
 bool read_ticket(const uint8_t *ticket, size_t length, struct job *job, struct refusal *refusal);

@@ -1,5 +1,6 @@
 /* sheet.c - a sheet shown as a table of rounds, in the manner of Figure 1 of document 000, for a
- * whole job or up to a stop; below it the rounds that are charged, and the fetches of all rounds. */
+ * whole job or up to a stop; above the rounds the blocks carried in, below them the rounds that are
+ * charged, and the fetches of all rounds. */
 #include "job.h"
 
 #include <stdio.h>
@@ -98,6 +99,12 @@ static bool read_action(struct fields *f, const struct play *play, struct place 
 
 /* ---- Playing and showing ---- */
 
+static void enter(struct play *play, unsigned block)
+{
+    play->resident[block] = true;
+    play->held[play->job->disk_of[block]]++;
+}
+
 /* The discarded block leaves, then the fetched one enters. */
 static void act(struct play *play, unsigned d, struct action action)
 {
@@ -108,8 +115,7 @@ static void act(struct play *play, unsigned d, struct action action)
         play->held[d]--;
     }
     if (action.fetch != NONE) {
-        play->resident[action.fetch] = true;
-        play->held[d]++;
+        enter(play, action.fetch);
         play->fetches[d]++;
     }
     snprintf(cell, sizeof cell, "%s/%s", action.fetch == NONE ? "-" : name[action.fetch],
@@ -118,7 +124,7 @@ static void act(struct play *play, unsigned d, struct action action)
 }
 
 /* References are consumed up to the first block that is not resident, or to the stop. The last round
- * that consumes one is the last that is charged. */
+ * that consumes one is the last that is charged; round 0 is before round 1. */
 static void consume(struct play *play, unsigned round)
 {
     const struct job *job = play->job;
@@ -144,6 +150,51 @@ static void print_header(const struct play *play)
         printf("  %-*s", play->width, cell);
     }
     puts("  read");
+}
+
+/* The next block that a disk carries in, from b on; NONE if there is none. */
+static unsigned next_carried(const struct job *job, unsigned d, unsigned b)
+{
+    while (b < job->blocks && !(job->carried[b] && job->disk_of[b] == d))
+        b++;
+    return b < job->blocks ? b : NONE;
+}
+
+/* One row of carried blocks: of each disk the first from next on, which moves past it. The last row
+ * does not end its line. */
+static void print_carried(const struct play *play, unsigned *next, bool last)
+{
+    const struct job *job = play->job;
+
+    fputs("   in", stdout);
+    for (unsigned d = 0; d < job->disks; d++) {
+        unsigned b = next_carried(job, d, next[d]);
+
+        printf("  %-*s", last || d + 1 < job->disks ? play->width : 0, b == NONE ? "-" : name[b]);
+        next[d] = b + 1;
+    }
+    if (!last)
+        putchar('\n');
+}
+
+/* What is carried in, if anything is: a row for the first block of each disk, one for the second,
+ * and so on. What is read before round 1 ends the last row. */
+static void carry_in(struct play *play)
+{
+    const struct job *job = play->job;
+    unsigned next[MAX_DISKS] = {0}, rows = 0;
+
+    for (unsigned b = 0; b < job->blocks; b++)
+        if (job->carried[b])
+            enter(play, b);
+    for (unsigned d = 0; d < job->disks; d++)
+        if (play->held[d] > rows)
+            rows = play->held[d];
+    if (rows == 0)
+        return;
+    for (unsigned row = 1; row <= rows; row++)
+        print_carried(play, next, row == rows);
+    consume(play, 0);
 }
 
 /* One row; it breaks off with '?' at an action that is refused. */
@@ -201,6 +252,7 @@ static bool show(struct fields *f, struct play *play, struct refusal *refusal)
         return refuse(refusal, 10, "at most %d rounds stand on a sheet, not %u", MAX_ROUNDS,
                       rounds);
     print_header(play);
+    carry_in(play);
     for (unsigned round = 1; round <= rounds; round++)
         if (!play_round(f, play, round, refusal))
             return false;

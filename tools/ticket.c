@@ -136,11 +136,42 @@ static void blocks(struct text *t, struct job *job)
 
     if (job->disks == 0)
         fail(t->line, 0, "blocks are placed before the first disk");
+    if (carried_on(job, job->disks - 1) > 0)
+        fail(t->line, 0, "'blocks' is too late, after those that the disk carries in");
     t->placing_line = t->line;
     while (next_word(t)) {
         range(t, &first, &last);
         for (unsigned b = first; b <= last; b++)
             place(t, job, b);
+    }
+}
+
+/* One more block that the last disk carries in, from the word. */
+static void carry(const struct text *t, struct job *job, unsigned b)
+{
+    unsigned d = job->disks - 1;
+
+    if (carried_on(job, d) == job->slots[d])
+        fail(t->line, 25, "disk %u has %u slot%s, and carries in more blocks with '%s'", d,
+             job->slots[d], job->slots[d] == 1 ? "" : "s", t->word);
+    if (b >= job->blocks || job->disk_of[b] != d)
+        fail(t->line, 26, "disk %u carries in block %u, which is not among its blocks above", d, b);
+    if (job->carried[b])
+        fail(t->line, 26, "disk %u carries in block %u twice", d, b);
+    job->carried[b] = true;
+}
+
+/* The numbers after "carried", for the last disk, whose blocks have all been placed. */
+static void carried(struct text *t, struct job *job)
+{
+    unsigned first, last;
+
+    if (job->disks == 0)
+        fail(t->line, 0, "blocks are carried in before the first disk");
+    while (next_word(t)) {
+        range(t, &first, &last);
+        for (unsigned b = first; b <= last; b++)
+            carry(t, job, b);
     }
 }
 
@@ -250,6 +281,7 @@ static void statement(struct text *t, struct job *job)
 {
     bool is_disk = strcmp(t->word, "disk") == 0, is_blocks = strcmp(t->word, "blocks") == 0;
     bool is_read = strcmp(t->word, "read") == 0, is_passes = strcmp(t->word, "passes") == 0;
+    bool is_carried = strcmp(t->word, "carried") == 0;
 
     if (is_read || is_passes) {
         if (!t->reading)
@@ -261,14 +293,17 @@ static void statement(struct text *t, struct job *job)
             passes(t, job);
         return;
     }
-    if (!is_disk && !is_blocks)
-        fail(t->line, 0, "a line starts with disk, blocks, read or passes, not '%s'", t->word);
+    if (!is_disk && !is_blocks && !is_carried)
+        fail(t->line, 0, "a line starts with disk, blocks, carried, read or passes, not '%s'",
+             t->word);
     if (t->reading)
         fail(t->line, 0, "'%s' is too late, after the first read or passes", t->word);
     if (is_disk)
         disk(t, job);
-    else
+    else if (is_blocks)
         blocks(t, job);
+    else
+        carried(t, job);
 }
 
 static void read_text(FILE *from, const char *path, struct job *job)
@@ -276,8 +311,10 @@ static void read_text(FILE *from, const char *path, struct job *job)
     struct text t = {.from = from, .next = getc(from), .line = 1};
 
     job->disks = job->blocks = job->references = 0;
-    for (unsigned b = 0; b < MAX_BLOCKS; b++)
+    for (unsigned b = 0; b < MAX_BLOCKS; b++) {
         job->disk_of[b] = NOWHERE;
+        job->carried[b] = false;
+    }
     while (t.next != EOF) {
         if (next_word(&t))
             statement(&t, job);
@@ -320,6 +357,12 @@ static void print_ticket(const struct job *job)
     put(&t, 12, job->references);
     for (unsigned i = 0; i < job->references; i++)
         put(&t, 9, job->reference[i]);
+    for (unsigned d = 0; d < job->disks; d++) {
+        put(&t, 7, carried_on(job, d));
+        for (unsigned b = 0; b < job->blocks; b++)
+            if (job->carried[b] && job->disk_of[b] == d)
+                put(&t, 9, b);
+    }
     fwrite(t.bytes, 1, (t.at + 7) / 8, stdout);
 }
 
@@ -333,32 +376,45 @@ static void print_word(const char *start, int *column, const char *word)
     *column += printf(" %s", word);
 }
 
-/* The first block past those from b on that are one word: three or more on one disk, or b alone. */
-static unsigned word_end(const struct job *job, unsigned b)
+/* The first block past those from b on that are one word: three or more in the list, or b alone. */
+static unsigned word_end(const bool *listed, unsigned b)
 {
     unsigned end = b + 1;
 
-    while (end < job->blocks && job->disk_of[end] == job->disk_of[b])
+    while (end < MAX_BLOCKS && listed[b] && listed[end])
         end++;
     return end - b < 3 ? b + 1 : end;
 }
 
-static void print_disk(const struct job *job, unsigned d)
+/* Prints a list of blocks after the first words of its line; start has those of a further line. */
+static void print_blocks(const bool *listed, const char *start, int column)
 {
-    int column = printf("disk %u slots %u blocks", d, job->slots[d]);
     char word[WORD_ROOM];
 
-    for (unsigned b = 0, end; b < job->blocks; b = end) {
-        end = word_end(job, b);
-        if (job->disk_of[b] != d)
+    for (unsigned b = 0, end; b < MAX_BLOCKS; b = end) {
+        end = word_end(listed, b);
+        if (!listed[b])
             continue;
         if (end == b + 1)
             snprintf(word, sizeof word, "%u", b);
         else
             snprintf(word, sizeof word, "%u-%u", b, end - 1);
-        print_word("  blocks", &column, word);
+        print_word(start, &column, word);
     }
     putchar('\n');
+}
+
+static void print_disk(const struct job *job, unsigned d)
+{
+    bool placed[MAX_BLOCKS] = {false}, held[MAX_BLOCKS] = {false};
+
+    for (unsigned b = 0; b < job->blocks; b++) {
+        placed[b] = job->disk_of[b] == d;
+        held[b] = placed[b] && job->carried[b];
+    }
+    print_blocks(placed, "  blocks", printf("disk %u slots %u blocks", d, job->slots[d]));
+    if (carried_on(job, d) > 0)
+        print_blocks(held, "  carried", printf("  carried"));
 }
 
 static void print_text(const struct job *job)

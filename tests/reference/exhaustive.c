@@ -1,9 +1,10 @@
 /* exhaustive.c - every schedule of small jobs up to a stop, against the two plans.
  *
  * usage: exhaustive [SEED [COUNT]]
- * A state is the next read and the set of resident blocks. All states that allowed actions can
- * reach are searched, for each disk on its own for the fewest fetches there, and then for the fewest
- * rounds charged; and once more with discards beside an empty slot, which document 01 allows and
+ * A state is the next read and the set of resident blocks. A job starts with the blocks that it
+ * carries in, read as far as they allow. All states that allowed actions can reach from there are
+ * searched, for each disk on its own for the fewest fetches there, and then for the fewest rounds
+ * charged; and once more with discards beside an empty slot, which document 01 allows and
  * request L3 does not. A schedule may go on when all references before the stop are consumed: its
  * rounds then are not charged, and its fetches count. Exit 0 only if the fewest are the fetches of
  * P-CON and the rounds of P-MIN in both searches, though the second reaches some states in fewer
@@ -12,11 +13,13 @@
  * that passes with the rounds that the search found, and is chosen by them; the choice between the
  * plans' sheets follows the rounds, and each line of the page says what the sheet handed back does,
  * with the letter of the papers; all that planning gives is the same for the job that ends at the
- * stop, and with other references from there on; P-CON takes at most as many rounds as it has fetches
- * on all disks, at most D times the rounds of P-MIN on D disks (request L8), and as many on one; and
- * stops of 0, of N and in between, rounds after the last reference, idle and fetching, idle rounds
- * before it, no rounds charged, and with 2 and with 3 disks more than D - 1 times the rounds of P-MIN
- * were met. */
+ * stop, and with other references from there on; either plan goes on as it does for a job that carries
+ * in what its buffers hold after some of its rounds; P-CON takes at most as many rounds as it has
+ * fetches on all disks, at most D times the rounds of P-MIN on D disks (request L8), and as many on
+ * one; and stops of 0, of N and in between, rounds after the last reference, idle and fetching, idle
+ * rounds before it, no rounds charged, jobs that carry blocks in and that carry none, that are read
+ * before round 1 in part and to the stop, with a disk full of carried blocks, and of such that are
+ * never read, and with 2 and with 3 disks more than D - 1 times the rounds of P-MIN were met. */
 #include "chance.h"
 #include "reference.h"
 
@@ -58,13 +61,29 @@ static unsigned size(unsigned set)
     return set == 0 ? 0 : (set & 1) + size(set >> 1);
 }
 
+/* Reading, as far as a set of resident blocks allows, up to the stop. Gives the next read. */
+static unsigned read_on(const struct ref_job *job, unsigned set, unsigned next_read)
+{
+    while (next_read < job->stop && set >> job->reference[next_read] & 1)
+        next_read++;
+    return next_read;
+}
+
+/* The blocks that a job carries in. */
+static unsigned carried_in(const struct ref_job *job)
+{
+    unsigned set = 0;
+
+    for (unsigned b = 0; b < job->blocks; b++)
+        set |= (unsigned)job->carried[b] << b;
+    return set;
+}
+
 /* The end of a round: reading, then the state's cost if it is the least so far. */
 static void arrive(struct search *s, unsigned set, unsigned cost)
 {
-    unsigned next_read = s->now.next_read;
+    unsigned next_read = read_on(s->job, set, s->now.next_read);
 
-    while (next_read < s->job->stop && set >> s->job->reference[next_read] & 1)
-        next_read++;
     if (cost < s->cost[next_read][set]) {
         s->cost[next_read][set] = cost;
         s->step[next_read][set] = s->now;
@@ -105,13 +124,13 @@ static void each_action(struct search *s, unsigned d, unsigned set, unsigned cos
  * the stop, with any rounds after that. */
 static unsigned least(struct search *s, unsigned measure)
 {
-    unsigned best = UNREACHED;
+    unsigned best = UNREACHED, carried = carried_in(s->job);
 
     s->measure = measure;
     for (unsigned p = 0; p <= s->job->stop; p++)
         for (unsigned set = 0; set < SETS; set++)
             s->cost[p][set] = UNREACHED;
-    s->cost[0][0] = 0;
+    s->cost[read_on(s->job, carried, 0)][carried] = 0;
     do {
         s->changed = false;
         for (unsigned p = 0; p <= s->job->stop; p++)
@@ -128,6 +147,30 @@ static unsigned least(struct search *s, unsigned measure)
     return best;
 }
 
+/* How many blocks a disk carries in. */
+static unsigned carried_on(const struct ref_job *job, unsigned d)
+{
+    unsigned count = 0;
+
+    for (unsigned b = 0; b < job->blocks; b++)
+        count += job->disk[b] == d && job->carried[b];
+    return count;
+}
+
+/* Blocks carried in, so many as the slots hold: one of two as it comes, or each that fits. */
+static void draw_carried(struct chance *c, struct ref_job *job)
+{
+    bool each = one_in(c, 3);
+    unsigned first = below(c, job->blocks);
+
+    for (unsigned k = 0; k < job->blocks; k++) {
+        unsigned b = (first + k) % job->blocks, d = job->disk[b];
+
+        if (carried_on(job, d) < job->slots[d] && (each || one_in(c, 2)))
+            job->carried[b] = true;
+    }
+}
+
 /* The jobs of Theorem 8's kind: the family's own with two disks, two slots on each and two
  * repetitions; and, as that with three disks has too many blocks, one with three disks, found by
  * trying, for which P-MIN takes 7 rounds and P-CON 15. */
@@ -140,26 +183,30 @@ static const struct ref_job waiting[] = {
                                      4, 3, 1, 0, 7, 6, 3, 4, 2, 1, 5, 7, 0, 6, 5}},
 };
 
-/* One of these: whole, or, by chance and if it may be, with a reference changed or up to a stop. */
+/* One of these: whole, or, by chance and if it may be, with a reference changed, up to a stop, or with
+ * blocks carried in. */
 static void draw_waiting_job(struct chance *c, unsigned which, bool whole, struct ref_job *job)
 {
-    unsigned how = whole ? 0 : below(c, 3), at;
+    unsigned how = whole ? 0 : below(c, 4), at;
 
     *job = waiting[which];
     at = below(c, job->references);
     job->stop = how == 2 ? at : job->references;
     if (how == 1)
         job->reference[at] = (uint16_t)below(c, job->blocks);
+    if (how == 3)
+        draw_carried(c, job);
 }
 
 /* Two jobs in three are of any kind, with at most 8 references before the stop. The third has two
  * disks with one and two slots, is longer and reads in stretches of one disk: there the two plans
- * often part. In two jobs of three the stop may be before the end. */
+ * often part. In two jobs of three the stop may be before the end; one in two carries blocks in. */
 static void draw_any_job(struct chance *c, struct ref_job *job)
 {
     bool tight = one_in(c, 3);
     unsigned last = 0;
 
+    memset(job, 0, sizeof *job);
     job->disks = tight ? 2 : between(c, 1, MOST_DISKS);
     job->blocks = tight ? ANY_BLOCKS : between(c, 1, ANY_BLOCKS);
     job->stop = tight ? between(c, 9, ANY_REFERENCES) : between(c, 0, 8);
@@ -177,6 +224,8 @@ static void draw_any_job(struct chance *c, struct ref_job *job)
         job->reference[i] = (uint16_t)b;
         last = b;
     }
+    if (one_in(c, 2))
+        draw_carried(c, job);
 }
 
 /* Every 100th job is of Theorem 8's kind, the one with 2 disks and the one with 3 in turn; the first of
@@ -299,7 +348,7 @@ static unsigned after(unsigned set, struct ref_action a)
 /* The round of a sheet in which the last reference before the stop is consumed, 0 if there is none. */
 static unsigned last_reading(const struct ref_job *job, const uint8_t *sheet)
 {
-    unsigned set = 0, next_read = 0, last = 0;
+    unsigned set = carried_in(job), next_read = read_on(job, set, 0), last = 0;
     size_t at = 0, written = take(sheet, &at, 12);
 
     for (unsigned round = 1; round <= written; round++) {
@@ -396,6 +445,9 @@ struct way {
 
 static struct {
     unsigned long none, whole, between;   /* stops: 0, N, and others */
+    unsigned long carried, empty;         /* jobs that carry blocks in, and that carry none */
+    unsigned long in_part, in_whole;      /* read before round 1, in part and to the stop */
+    unsigned long full, unread;           /* a disk full of carried blocks; none of which is read */
     unsigned long sooner;      /* states that discards beside an empty slot reach sooner, or alone */
     unsigned long slower, spares;
     unsigned long waited;      /* ways with idle rounds before the last reference is consumed */
@@ -440,11 +492,12 @@ static unsigned reached(struct chance *c, const struct search *s)
 static void build_way(struct chance *c, const struct search *s, struct way *way)
 {
     unsigned set = reached(c, s), at = s->job->stop, steps = 0, waited = 0, idle = 0, fetched = 0;
+    unsigned carried = carried_in(s->job), start = read_on(s->job, carried, 0);
     const struct step *step[MOST_WAY];
 
     memset(way, 0, sizeof *way);
     way->want.charged = (uint16_t)s->cost[at][set];
-    for (; set != 0; at = step[steps]->next_read, set = step[steps]->set, steps++)
+    for (; at != start || set != carried; at = step[steps]->next_read, set = step[steps]->set, steps++)
         step[steps] = &s->step[at][set];
     while (steps-- > 0) {
         bool left = step[steps]->next_read < s->job->stop;
@@ -588,7 +641,7 @@ static bool page_agrees(const struct ref_job *job, enum ref_rule rule, const uin
 {
     static const char legend[] = "E empty slot    \nM min-block out \nS used sooner   \n"
                                  "W waits         \nN none left     \n";
-    unsigned set = 0, next_read = 0;
+    unsigned set = carried_in(job), next_read = read_on(job, set, 0);
     size_t at = 0, rounds = take(sheet, &at, 12);
 
     if (length != rounds * job->disks * REF_LINE + strlen(legend))
@@ -602,8 +655,7 @@ static bool page_agrees(const struct ref_job *job, enum ref_rule rule, const uin
                 return false;
             set = after(set, a);
         }
-        while (next_read < job->stop && set >> job->reference[next_read] & 1)
-            next_read++;
+        next_read = read_on(job, set, next_read);
     }
     return memcmp(page, legend, strlen(legend)) == 0;
 }
@@ -682,10 +734,82 @@ static bool past_is_ignored(struct chance *c, const struct ref_job *job, const s
     return same_for(&other, w, planned);
 }
 
+/* ---- A plan that goes on from what it holds ---- */
+
+/* A rule's plan, cut after some of its rounds: a job that carries in what is in the buffers then, with
+ * the references from those on that the last of these rounds consumed, has the rest of the plan. */
+static bool rest_is_planned(struct chance *c, const struct ref_job *job, enum ref_rule rule,
+                            const uint8_t *sheet)
+{
+    static struct ref_action schedule[REF_ROUNDS * REF_DISKS];
+    unsigned set = carried_in(job), next_read = read_on(job, set, 0), before = 0;
+    size_t at = 0, rounds = take(sheet, &at, 12), played = below(c, (unsigned)rounds + 1);
+    struct ref_job rest = *job;
+    struct ref_counts counts;
+
+    for (size_t round = 0; round < played; round++) {
+        for (unsigned d = 0; d < job->disks; d++)
+            set = after(set, take_action(sheet, &at));
+        before = next_read;
+        next_read = read_on(job, set, next_read);
+    }
+    rest.references -= before;
+    rest.stop -= before;
+    memmove(rest.reference, rest.reference + before, rest.references * sizeof rest.reference[0]);
+    for (unsigned b = 0; b < job->blocks; b++)
+        rest.carried[b] = set >> b & 1;
+    ref_run(&rest, rule, schedule, &counts);
+    for (size_t k = 0; k < (rounds - played) * job->disks; k++) {
+        struct ref_action a = take_action(sheet, &at);
+
+        if (a.fetch != schedule[k].fetch || a.discard != schedule[k].discard)
+            return false;
+    }
+    return counts.charged == rounds - played;
+}
+
+/* What does not hold of a job whose plans pass, or NULL. */
+static const char *cut_job(struct chance *c, const struct ref_job *job)
+{
+    static struct written written;
+    struct ref_planned planned;
+
+    return both_pass(job, &written, &planned) &&
+           rest_is_planned(c, job, REF_P_MIN, written.sheet[REF_P_MIN]) &&
+           rest_is_planned(c, job, REF_P_CON, written.sheet[REF_P_CON])
+               ? NULL : "A PLAN GOES ON OTHERWISE";
+}
+
 /* ---- All of it ---- */
+
+/* What a job carries in, and how far it is read before round 1. */
+static void count_carried(const struct ref_job *job)
+{
+    unsigned set = carried_in(job), next_read = read_on(job, set, 0), read = 0;
+    bool full = false, unread = false;
+
+    for (unsigned i = 0; i < job->stop; i++)
+        read |= 1u << job->reference[i];
+    for (unsigned d = 0; d < job->disks; d++)
+        if (carried_on(job, d) == job->slots[d]) {
+            unsigned due = 0;
+
+            for (unsigned b = 0; b < job->blocks; b++)
+                due += job->disk[b] == d && (set & read) >> b & 1;
+            full = true;
+            unread = unread || due == 0;
+        }
+    met.carried += set != 0;
+    met.empty += set == 0;
+    met.in_part += next_read > 0 && next_read < job->stop;
+    met.in_whole += next_read > 0 && next_read == job->stop;
+    met.full += full;
+    met.unread += unread;
+}
 
 static void count_met(const struct ref_job *job, const struct ref_planned *planned)
 {
+    count_carried(job);
     met.none += job->stop == 0;
     met.whole += job->stop == job->references;
     met.between += job->stop > 0 && job->stop < job->references;
@@ -741,7 +865,11 @@ static int report(const char *what, uint64_t seed, uint64_t k, const struct ref_
     printf("; references");
     for (unsigned i = 0; i < job->references; i++)
         printf(" %u", job->reference[i]);
-    printf("; stop %u\n", job->stop);
+    printf("; stop %u; carried in", job->stop);
+    for (unsigned b = 0; b < job->blocks; b++)
+        if (job->carried[b])
+            printf(" %u", b);
+    printf("\n");
     return 1;
 }
 
@@ -751,6 +879,9 @@ static bool all_met(void)
     bool waits;
 
     printf("  stops of 0: %lu, of N: %lu, in between: %lu\n", met.none, met.whole, met.between);
+    printf("  jobs that carry blocks in: %lu, none: %lu; read before round 1 in part: %lu, to the "
+           "stop: %lu;\n    with a disk full of carried blocks: %lu, of such that are never read: %lu\n",
+           met.carried, met.empty, met.in_part, met.in_whole, met.full, met.unread);
     printf("  discards beside an empty slot reach %lu states sooner, or alone\n", met.sooner);
     printf("  P-CON took more rounds than P-MIN in %lu, and other fetches in %lu\n", met.slower,
            met.spares);
@@ -763,7 +894,26 @@ static bool all_met(void)
         printf(" %c:%lu", letters[k], letters_met[k]);
     printf("\n");
     return waits && met.none > 0 && met.whole > 0 && met.between > 0 && met.sooner > 0 &&
-           met.waited > 0 && met.idle > 0 && met.fetched > 0 && met.uncharged > 0 && met.tied > 0;
+           met.waited > 0 && met.idle > 0 && met.fetched > 0 && met.uncharged > 0 && met.tied > 0 &&
+           met.carried > 0 && met.empty > 0 && met.in_part > 0 && met.in_whole > 0 && met.full > 0 &&
+           met.unread > 0;
+}
+
+/* Tries all jobs, and gives the exit status. */
+static int try_jobs(uint64_t seed, uint64_t count,
+                    const char *(*try)(struct chance *, const struct ref_job *))
+{
+    for (uint64_t k = 0; k < count; k++) {
+        struct chance c = chance_for(seed, k);
+        struct ref_job job;
+        const char *wrong;
+
+        draw_small_job(&c, k, &job);
+        wrong = try(&c, &job);
+        if (wrong != NULL)
+            return report(wrong, seed, k, &job);
+    }
+    return 0;
 }
 
 int main(int argc, char **argv)
@@ -772,23 +922,17 @@ int main(int argc, char **argv)
     uint64_t count = argc > 2 ? strtoull(argv[2], NULL, 10) : 10000;
     bool all;
 
-    for (uint64_t k = 0; k < count; k++) {
-        struct chance c = chance_for(seed, k);
-        struct ref_job job;
-        const char *wrong;
-
-        draw_small_job(&c, k, &job);
-        wrong = search_job(&c, &job);
-        if (wrong != NULL)
-            return report(wrong, seed, k, &job);
-    }
-    printf("%" PRIu64 " jobs searched (seed %" PRIu64 "): the plans are the least in all, with and "
-           "without L3, whatever rounds follow the last reference,\n  and the same whatever is past "
-           "the stop; the choices follow the rounds charged, and the pages the sheets;\n  P-CON takes at "
-           "most D times the rounds of P-MIN, and no more than its fetches\n", count, seed);
+    if (try_jobs(seed, count, search_job) != 0 || try_jobs(seed, count, cut_job) != 0)
+        return 1;
+    printf("%" PRIu64 " jobs searched (seed %" PRIu64 "): the plans are the least in all from the "
+           "blocks carried in, with and without L3,\n  whatever rounds follow the last reference, and "
+           "the same whatever is past the stop; they go on alike from what their buffers hold;\n  the "
+           "choices follow the rounds charged, and the pages the sheets;\n  P-CON takes at most D times "
+           "the rounds of P-MIN, and no more than its fetches\n", count, seed);
     all = all_met();
     if (!all)
-        printf("FAIL: a kind of stop or of way, a wait of more than D - 1 times the rounds, or a state "
-               "that is reached sooner, or only, with discards beside an empty slot, was never met\n");
+        printf("FAIL: a kind of stop, of carried blocks or of way, a wait of more than D - 1 times the "
+               "rounds, or a state that is reached sooner, or only, with discards beside an empty slot, "
+               "was never met\n");
     return !all;
 }

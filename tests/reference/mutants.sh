@@ -8,8 +8,8 @@ build=$1
 dir=$build/mutant
 missed=0
 tried=0
-cat ../vectors/L7.txt ../vectors/edges.txt ../vectors/longest.txt >"$build/all.txt" || exit 2
-grep -h '^note' ../vectors/L7.txt ../vectors/edges.txt >"$build/notes.txt" || exit 2
+cat ../vectors/L9.txt ../vectors/edges.txt ../vectors/longest.txt >"$build/all.txt" || exit 2
+grep -h '^note' ../vectors/L9.txt ../vectors/edges.txt >"$build/notes.txt" || exit 2
 
 # trial SOURCE OTHER NAME SCRIPT TEST WORDS ARGUMENT... - the changed copy of SOURCE.c, linked with OTHER, must differ and compile, and
 # the test must say what is wrong with it: a crash would not do.
@@ -157,9 +157,10 @@ none_for_none=$(charged 'job->stop == 0 ? written : counts->charged')
 no_late_fetches=$(counted_late false)
 busy="${in_rounds}{s/^        bool left = .*/&\\n        bool busy = false;/;s/^            counts->fetches.*/&\\n            busy = busy || a.fetch != REF_NONE;/}"
 reading_rounds="${in_rounds}{s/bool left = .*/unsigned before = next_read;/;s/^        if \\(left \\&\\& .*/        if (next_read > before)/;s/= \\(uint16_t\\)round;/+= 1;/}"
-past_charged="${in_rounds}{s/^    unsigned next_read = 0;/    unsigned next_read = 0, whole = 0;/
+read_whole='while (whole < job->references \&\& s.resident[job->reference[whole]]) whole++;'
+past_charged="${in_rounds}{s/^    unsigned next_read = start.*/&\\n    unsigned whole = next_read;\\n    $read_whole/
     s/^        if \\(left \\&\\& .*/        left = whole < job->references \\&\\& s.resident[job->reference[whole]];\\n/
-    s/^            counts->charged = .*/        while (whole < job->references \\&\\& s.resident[job->reference[whole]])\\n            whole++;\\n        if (left)\\n&/}"
+    s/^            counts->charged = .*/        $read_whole\\n        if (left)\\n&/}"
 by_written=$(chosen "$written_2 <= $written_1")
 idle_end='s/^        counts->charged\+\+;/&\n        if (r.next_read == job->stop)\n            memset(schedule + job->disks, 0xff, job->disks * sizeof *schedule);/
     s/\(size_t\)p->counts\[k\].charged \*/(size_t)(p->counts[k].charged + (p->counts[k].charged > 0)) */
@@ -226,6 +227,58 @@ of_whole() {
 '    struct ref_job w = drawn->job;\\n    w.stop = w.references;\\n'\
 '    for (int k = 0; k < 2; k++) ref_run(\\&w, (enum ref_rule)k, a[k], \\&c[k]);\\n    %s\\n&/' "$in_planning" "$1"
 }
+
+# Scripts about carried blocks
+in_fields='/^static unsigned read_fields/,/^}/'
+in_carried='/^static unsigned read_carried/,/^}/'
+in_start='/^static unsigned start/,/^}/'
+in_begin='/^static void begin/,/^}/'
+in_run='/^void ref_run/,/^}/'
+none_carried="${in_start}s/if \\(job->carried\\[b\\]\\)/if (false)/"
+not_held="${in_start}s/^            s->held.*/            ;/"
+not_held_planned="${in_begin}s/^    r->next_read = .*/&\\n    memset(r->s.held, 0, sizeof r->s.held);/"
+distances_left="${in_begin}s/^    keep_up.*/    ;/;$at_most_n"
+check_empty="${in_rounds}s/= start\\(job, &s\\);/= (memset(\\&s, 0, sizeof s), 0);/"
+page_empty='s/^    write_page\(/    if (ng >= REF_PAGE) memset(drawn.job.carried, 0, sizeof drawn.job.carried);\n&/'
+each_carried='for (unsigned d = 0; d < job->disks; d++) counts->fetches[d] += carried_on(job, d);'
+checked_as_fetch="${in_rounds}s/^    unsigned next_read = .*/&\\n    $each_carried/"
+planned_as_fetch="${in_run}s/^    memset\\(counts.*/&\\n    $each_carried/"
+round_for_reading="${in_run}s/^        play_round\\(.*/        if (counts->charged == 0 \\&\\& r.next_read > 0) {\\n\
+            memset(schedule, 0xff, job->disks * sizeof *schedule);\\n            schedule += job->disks;\\n            counts->charged++;\\n        }\\n&/"
+
+# read_before EXPRESSION - the script that has so many references read before round 1.
+read_before() {
+    printf '%ss/return consume\\(job, s, 0\\);/return %s;/' "$in_start" "$1"
+}
+nothing_read=$(read_before 0)
+
+# starts_empty RULE - the script that has this plan, 0 or 1, start from empty buffers.
+starts_empty() {
+    printf '%ss/^        ref_run\\(&drawn->job, /        struct ref_job other = drawn->job;\\n        if (k == %s) memset(other.carried, 0, sizeof other.carried);\\n        ref_run(\\&other, /' \
+        "$in_planning" "$1"
+}
+
+# last_of BEFORE - the script that has the min-block be the last due of some blocks alone, if it can: b comes before the block that was found where
+# this holds, whichever is due last.
+last_of() {
+    printf '%ss/^            if \\(v->min_block == REF_NONE \\|\\| (.*)\\)$/            if (v->min_block == REF_NONE || (%s != 0 ? %s > 0 : \\1))/' \
+        "$in_survey" "$1" "$1"
+}
+fetched_first="$(last_of '(job->carried[v->min_block] - job->carried[b])');$at_most_n"
+carried_first="$(last_of '(job->carried[b] - job->carried[v->min_block])');$at_most_n"
+never_tie='l->distance[b] == l->distance[v->min_block]'
+carried_nevers=$(last_of "($never_tie ? job->carried[b] - job->carried[v->min_block] : 0)")
+carried_nevers_short="s/^struct view \\{/static enum ref_rule now;\\n\\n&/;s/^    survey\\(job, &r.*/    now = rule;\\n&/
+    $(last_of "(now == REF_P_MIN \\&\\& job->disks == 1 \\&\\& $never_tie ? job->carried[b] - job->carried[v->min_block] : 0)")"
+
+# late NUMBER WHERE - the script that has 25 or 26 tested later; WHERE is a script that returns late.
+late() {
+    printf 's/^static bool closes/static unsigned late;\\n\\n&/;%s{s/^    memset\\(job->carried.*/    late = 0;\\n&/;s/return %s;/late = late ? late : %s;/}\n%s' \
+        "$in_carried" "$1" "$1" "$2"
+}
+after_list="${in_carried}s/^        \\}\$/&\\n        if (late != 0)\\n            return late;/"
+after_lists="${in_carried}s/^    return 0;/    return late;/"
+after_closing="${in_fields}s/return closes\\(&r\\) \\? 0 : 8/return closes(\\&r) ? late : 8/"
 
 # The rules
 mutant 'lowest number among several nevers' \
@@ -302,7 +355,7 @@ for bits in 8 12 16 32 63; do
 done
 
 # When 21 is tested
-for number in 1 2 3 4 5 6 7 8; do
+for number in 1 2 3 4 5 6 7 25 26 8; do
     mutant "21 tested before $number" "$(first_of "$number")"
 done
 for number in 9 10 11 12 13 14 15 16 20; do
@@ -318,6 +371,105 @@ mutant '21 tested after 18 with a page' "$(before_number 'if (number == 21 \&\& 
 mutant '21 tested after 19' "$(before_number 'if (number == 21 \&\& ng < REF_LEGEND * REF_LINE) return 19;')"
 mutant 'sheets written although 21' "$(refused false)
     s/^    write_sheets\\(&drawn.*/&\\n    if (stop > drawn.job.references) return 21;/"
+
+# Which carried blocks are taken
+mutant 'a ticket without counts taken' "${in_carried}s/^        if \\(!field\\(r, 7, &count\\)\\)/        if (!field(r, 7, \\&count) \\&\\& (count = 0) > 0)/"
+mutant 'a count equal to the slots refused' 's/count > job->slots\[d\]/count >= job->slots[d]/'
+mutant 'a count of one more than the slots taken' 's/count > job->slots\[d\]/count > job->slots[d] + 1/'
+mutant "a count by disk 0's slots" 's/count > job->slots\[d\]/count > job->slots[0]/'
+mutant 'a count above 64 alone refused' 's/count > job->slots\[d\]/count > REF_SLOTS/'
+mutant 'a count above the blocks refused with 25' 's/count > job->slots\[d\]/count > job->slots[d] || count > job->blocks/'
+mutant 'six bits of a count' 's/field\(r, 7, &count\)/field(r, 6, \&count)/'
+mutant 'eight bits of a number' "${in_carried}s/field\\(r, 9, &v\\)/field(r, 8, \\&v)/"
+mutant 'the last eight bits of a carried block' 's/job->carried\[v\] = true/job->carried[v % 256] = true/'
+mutant 'equal numbers taken' 's/least = v \+ 1;/least = v;/'
+mutant 'numbers in any order taken' 's/v < least \|\| //'
+mutant 'falling numbers taken, equal ones not' 's/v < least \|\| /v + 1 == least || /'
+mutant 'block 0 refused as the first number' 's/least = 0;  /least = 1;  /'
+mutant 'the numbers rise over all disks' \
+    's/^        unsigned count, v, least = 0;.*/        static unsigned least;\n        unsigned count, v;\n\n        least = d == 0 ? 0 : least;/'
+mutant 'a carried block of B taken' "${in_carried}s/^            if \\(v < least/            if (v == job->blocks) v--;\\n&/"
+mutant 'a carried block of another disk taken' "${in_carried}s/ \\|\\| job->disk\\[v\\] != d\\)/)/"
+mutant 'the first number of a list alone taken' "${in_carried}s/job->carried\\[v\\] = true/job->carried[v] |= k == 0/"
+mutant "disk 0's list alone taken" "${in_carried}s/job->carried\\[v\\] = true/job->carried[v] = d == 0/"
+mutant "the last disk's list not read" "${in_carried}s/d < job->disks/d + 1 < job->disks/"
+all_counts='for (unsigned e = 0; d == 0 \&\& e < job->disks; e++) if (!field(r, 7, \&counts[e])) return 1;'
+mutant 'the counts of all disks before the numbers' \
+    "${in_carried}s/^        if \\(!field\\(r, 7, &count\\)\\)/        static unsigned counts[REF_DISKS];\\n        $all_counts\\n        count = counts[d];\\n        if (false)/"
+mutant '26 for 25' 's/return 25;/return 26;/'
+mutant '25 for 26' 's/return 26;/return 25;/'
+
+# When 25 and 26 are tested
+mutant '25 tested after the numbers' "$(late 25 "$after_list")"
+mutant '25 tested after all lists' "$(late 25 "$after_lists")"
+mutant '25 tested after 8' "$(late 25 "$after_closing")"
+mutant '26 tested after the list' "$(late 26 "$after_list")"
+mutant '26 tested after all lists' "$(late 26 "$after_lists")"
+mutant '26 tested after 8' "$(late 26 "$after_closing")"
+mutant '25 for the end inside a count' "${in_carried}{/field\\(r, 7/{n;s/return 1;/return 25;/}}"
+mutant '26 for the end inside a number' "${in_carried}{/field\\(r, 9/{n;s/return 1;/return 26;/}}"
+there='unsigned left = (unsigned)(8 * r->len - r->at), there = 0; field(r, left, \&there);'
+mutant '1 tested after the value of a count, with zeros for the bits that are missing' \
+    "${in_carried}{/field\\(r, 7/{n;s/return 1;/{ $there return there << (7 - left) > job->slots[d] ? 25 : 1; }/}}"
+mutant '1 tested after the value of a number, with zeros for the bits that are missing' \
+    "${in_carried}{/field\\(r, 9/{n;s/return 1;/{ $there v = there << (9 - left); return v < least || v >= job->blocks || job->disk[v] != d ? 26 : 1; }/}}"
+mutant '7 tested after the carried blocks' \
+    "$in_fields{s/unsigned v, number;/unsigned v, number, late = 0;/;s/return 7;/late = 7;/;s/return closes/return late ? late : closes/}"
+# of a ticket that has its references: more than five bytes
+for number in 1 25 26; do
+    mutant "$number tested after 9 in the check" "${in_check}s/^    memset\\(out, 0, .*/&\\n    if (number == $number \\&\\& n > 5 \\&\\& m < 2) return 9;/"
+    mutant "$number tested after 9 in the choice" "${in_choice}s/^    memset\\(out, 0, .*/&\\n    if (number == $number \\&\\& n > 5 \\&\\& m1 < 2) return 9;/"
+    mutant "$number tested after 17" "/^unsigned ref_plan/,/^}/s/^    memset\\(out, 0, .*/&\\n    if (number == $number \\&\\& n > 5 \\&\\& ns < 2) return 17;/"
+    mutant "$number tested after 19" "${in_page}s/^    memset\\(out, 0, .*/&\\n    if (number == $number \\&\\& n > 5 \\&\\& ng < 85) return 19;/"
+done
+
+# Where a job starts
+mutant 'carried blocks are not in the buffers' "$none_carried"
+mutant 'carried blocks are not in the buffers before a stop' "${in_start}s/if \\(job->carried\\[b\\]\\)/if (job->carried[b] \\&\\& job->stop == job->references)/"
+mutant 'carried blocks take no slot' "$not_held"
+mutant 'carried blocks take slots of disk 0' "${in_start}s/held\\[job->disk\\[b\\]\\]/held[0]/"
+mutant 'carried blocks take no slot in the check' "${in_rounds}s/^    unsigned next_read = .*/&\\n    memset(s.held, 0, sizeof s.held);/"
+mutant 'carried blocks take no slot in the plans' "$not_held_planned"
+mutant 'nothing is read before round 1' "$nothing_read"
+mutant 'one reference is read before round 1' "$(read_before 'consume(job, s, 0) > 0')"
+mutant 'nothing is read before round 1 up to a stop' "$(read_before 'job->stop < job->references ? 0 : consume(job, s, 0)')"
+mutant 'the plans read nothing before round 1' "${in_begin}s/^    r->next_read = start.*/    r->next_read = (start(job, \\&r->s), 0);/"
+mutant 'the check reads nothing before round 1' "${in_rounds}s/= start\\(job, &s\\);/= (start(job, \\&s), 0);/"
+mutant 'the check asks that the reading before round 1 end at the stop' \
+    "${in_start}s/return consume\\(job, s, 0\\);/struct ref_job whole = *job; whole.stop = job->references; return consume(\\&whole, s, 0);/
+    ${in_rounds}s/^    if \\(next_read < job->stop\\)/    if (next_read != job->stop)/"
+mutant 'distances from the first reference, though some are read' "$distances_left"
+mutant 'P-MIN starts empty' "$(starts_empty 0)"
+mutant 'P-CON starts empty' "$(starts_empty 1)"
+mutant 'the page starts empty' "$page_empty"
+mutant 'the check starts empty' "$check_empty"
+for k in 0 1; do
+    other="struct ref_job other = job;\\n        if (k == $k) memset(other.carried, 0, sizeof other.carried);"
+    mutant "sheet $k of a choice starts empty" \
+        "${in_choice}s/^        number = check_sheet\\(&job,(.*)/        {\\n        $other\\n        number = check_sheet(\\&other,\\1\\n        }/"
+done
+
+# What is done with them
+mutant 'a fetched block goes before any carried one' "$fetched_first"
+mutant 'a carried block goes before any fetched one' "$carried_first"
+mutant 'of several nevers a carried one goes first' "$carried_nevers"
+mutant 'a carried block that is gone is not fetched again' "${in_survey}s/else if \\(l->distance/else if (!job->carried[b] \\&\\& l->distance/;$at_most_n"
+mutant 'P-CON does not wait for carried blocks' '/^static bool waits/,/^}/s/!s->resident\[b\]\)/!s->resident[b] || job->carried[b])/'
+mutant 'a carried block is read though it is gone' '/^static unsigned consume/,/^}/s/&& (s->resident)(\[job->reference\[next_read\]\])\)/\&\& (\1\2 || job->carried\2))/'
+mutant '12 not tested for carried blocks' "${in_action}s/^    if \\(s->resident\\[v\\]\\)/    if (s->resident[v] \\&\\& !job->carried[v])/"
+mutant '14 for carried blocks' "${in_action}s/ \\|\\| !s->resident\\[v\\]\\)/ || !s->resident[v] || job->carried[v])/"
+mutant 'a carried block is a fetch in the check' "$checked_as_fetch"
+mutant 'a carried block is a fetch in the plans' "$planned_as_fetch"
+mutant 'a carried block that is read is a fetch' "${in_rounds}s/^    unsigned next_read = .*/&\\n    for (unsigned i = 0; i < next_read; i++) counts->fetches[job->disk[job->reference[i]]] = 1;/"
+
+# What is charged for them
+mutant 'a sheet without rounds refused, though all is read before round 1' "${in_rounds}s/^    if \\(next_read < job->stop\\)/    if (next_read < job->stop || (written == 0 \\&\\& job->stop > 0))/"
+mutant 'the reading before round 1 takes a round of a plan' "$round_for_reading"
+mutant 'a round is planned though all is read' 's/(begin\(job, &r\); r.next_read < job->stop)(; schedule)/\1 || (counts->charged == 0 \&\& job->stop > 0)\2/'
+mutant 'one round more is charged where some is read before round 1' "${in_rounds}s/^    unsigned next_read = .*/&\\n    unsigned before = next_read;/
+    $(charged 'counts->charged + (before > 0)')"
+mutant 'the first round charged though all is read before it' "$(charged 'counts->charged == 0 \&\& job->stop > 0 \&\& written > 0 ? 1 : counts->charged')"
+mutant 'all rounds charged where all is read before them' "$(charged 'counts->charged == 0 \&\& job->stop > 0 ? written : counts->charged')"
 
 # What planning hands back
 mutant 'part length always that of P-MIN' 's/(p->length = .*)\[p->mark\]/\1[REF_P_MIN]/'
@@ -352,11 +504,11 @@ mutant 'a disk of D accepted' 's/if \(v >= job->disks\)/if (v > job->disks)/;s/^
 mutant '2049 references accepted' 's/references > REF_REFERENCES/references > REF_REFERENCES + 1/;s/^    return closes\(&r\).*/    if (job->references > REF_REFERENCES) return 7;\n&/'
 mutant 'a reference of B accepted' 's/^        if \(v >= job->blocks\)/        if (v > job->blocks)/;s/^(        job->reference\[i\] = ).*/\1(uint16_t)(v % job->blocks);/'
 mutant '7 tested after all references are read' \
-    '/^static unsigned read_fields/,/^}/{s/unsigned v;/unsigned v, late = 0;/;s/return 7;/late = 7;/;s/return closes/return late ? late : closes/}'
+    '/^static unsigned read_fields/,/^}/{s/unsigned v, number;/unsigned v, number, late = 0;/;s/return 7;/late = 7;/;s/^    number = /    if (late) return late;\n&/}'
 mutant '5 tested after all disks are read' \
-    '/^static unsigned read_fields/,/^}/{s/unsigned v;/unsigned v, late = 0;/;s/return 5;/late = 5;/;s/^    if \(!field\(&r, 12/    if (late) return late;\n&/}'
+    '/^static unsigned read_fields/,/^}/{s/unsigned v, number;/unsigned v, number, late = 0;/;s/return 5;/late = 5;/;s/^    if \(!field\(&r, 12/    if (late) return late;\n&/}'
 mutant '3 tested after all slots are read' \
-    '/^static unsigned read_fields/,/^}/{s/unsigned v;/unsigned v, late = 0;/;s/return 3;/late = 3;/;s/^    if \(!field\(&r, 10/    if (late) return late;\n&/}'
+    '/^static unsigned read_fields/,/^}/{s/unsigned v, number;/unsigned v, number, late = 0;/;s/return 3;/late = 3;/;s/^    if \(!field\(&r, 10/    if (late) return late;\n&/}'
 mutant 'closing bits not looked at' 's/field\(r, \(unsigned\)left, &bits\) && bits == 0/true/'
 mutant 'a byte after the end accepted' 's/left < 8 && (field.*);/left >= 8 || (\1);/'
 
@@ -382,7 +534,7 @@ mutant 'the fetched block itself discarded' 's/\|\| !s->resident\[v\]\)/|| (!s->
 mutant '14 of the last action tested after 15' \
     's/^static unsigned check_action/static unsigned late;\n\n&/
      s/^        return 14;/        { if (8 * r->len - r->at < 8) { late = 14; return 0; } return 14; }/
-     s/^    unsigned next_read = 0;/    unsigned next_read = late = 0;/
+     s/^    unsigned next_read = start/    late = 0;\n&/
      s/return closes\(r\) \? 0 : 16/return late ? late : closes(r) ? 0 : 16/'
 mutant '14 tested before 9 of the discarded block, with zeros for the bits that are missing' \
     '/return 20;/,/return 14;/s/^        return 9;/        { unsigned left = (unsigned)(8 * r->len - r->at); field(r, left, \&v); v = left > 0 ? v << (9 - left) : 0;\n        return v < job->blocks \&\& job->disk[v] == d \&\& s->resident[v] ? 9 : 14; }/'
@@ -425,7 +577,7 @@ mutant 'rounds in which nothing is consumed not charged' "$reading_rounds"
 mutant 'charged anew after a round in which no disk fetches' "$busy
     ${in_rounds}s/= \\(uint16_t\\)round;/= (uint16_t)(round - rest);/
     ${in_rounds}s/^        next_read = consume.*/        if (!busy) rest = round;\\n&/
-    ${in_rounds}s/^    unsigned next_read = 0;/    unsigned next_read = 0, rest = 0;/"
+    ${in_rounds}s/^    unsigned next_read = start/    unsigned rest = 0;\\n&/"
 mutant 'charged up to the first reference consumed' "${in_rounds}s/^        if \\(left \\&\\& .*/        if (next_read > 0 \\&\\& counts->charged == 0)/"
 mutant 'charged up to the last reference but one' \
     "${in_rounds}{s/bool left = next_read </bool left = next_read + 1 </;s/left \\&\\& next_read == /left \\&\\& next_read + 1 >= /}"
@@ -566,11 +718,30 @@ searched 'P-CON discards a block due before U' "$early" 'NOT THE LEAST'
 searched 'the reference at the stop counts too' "$one_more" 'PAST THE STOP COUNTS'
 searched 'the last reference before the stop does not count' "$one_less" 'NOT THE LEAST'
 searched 'a stop of N refused' "$(refused 'stop >= job->references')" 'NOT AS THE END'
-searched 'a reference past the stop is no never' "$no_never" 'NOT THE LEAST'
-searched 'the reference at the stop is no never' "$no_never_at" 'NOT THE LEAST'
+searched 'a reference past the stop is no never' "$no_never" 'NOT THE LEAST\|NOT AS THE END'
+searched 'the reference at the stop is no never' "$no_never_at" 'NOT THE LEAST\|PAST THE STOP COUNTS'
 searched 'the min-block by references past the stop' "$min_past" 'NOT AS THE END'
 searched 'P-CON waits by references past the stop' "$wait_past" 'PAST THE STOP COUNTS'
 searched 'the page up to N' "$page_past" 'NOT AS THE END'
+
+# Carried blocks: plans that are beaten, or beat, from them; and plans and pages that do not go on from what is in the buffers
+searched 'carried blocks are not in the buffers' "$none_carried" 'NOT THE LEAST'
+searched 'carried blocks take no slot' "$not_held" 'OTHER COUNTS'
+searched 'carried blocks take no slot in the plans' "$not_held_planned" 'NOT THE LEAST'
+searched 'nothing is read before round 1' "$nothing_read" 'NOT THE LEAST'
+searched 'distances from the first reference, though some are read' "$distances_left" 'NOT THE LEAST'
+searched 'P-MIN starts empty' "$(starts_empty 0)" 'NOT THE LEAST'
+searched 'P-CON starts empty' "$(starts_empty 1)" 'NOT THE LEAST'
+searched 'the check starts empty' "$check_empty" 'NOT THE LEAST'
+searched 'the page starts empty' "$page_empty" 'ANOTHER PAGE'
+searched 'a fetched block goes before any carried one' "$fetched_first" 'NOT THE LEAST'
+searched 'a carried block goes before any fetched one' "$carried_first" 'NOT THE LEAST'
+searched 'of several nevers a carried one goes first' "$carried_nevers" 'ANOTHER PAGE'
+searched 'of several nevers a carried one goes first in P-MIN, on one disk, where the page is of P-CON' "$carried_nevers_short" 'GOES ON OTHERWISE'
+searched 'a carried block is a fetch' "$checked_as_fetch;$planned_as_fetch" 'NOT THE LEAST'
+searched 'the reading before round 1 takes a round of a plan' "$round_for_reading" 'NOT THE LEAST'
+searched 'the first round charged though all is read before it' "$(charged 'counts->charged == 0 \&\& job->stop > 0 \&\& written > 0 ? 1 : counts->charged')" 'OTHER COUNTS'
+searched 'a count equal to the slots refused' 's/count > job->slots\[d\]/count >= job->slots[d]/' 'NOT THE LEAST'
 
 # Rounds that are charged, and fetches that are counted, otherwise than the search does
 searched 'all rounds written are charged, as before L7' "$all_charged" 'OTHER COUNTS'

@@ -1,5 +1,5 @@
-/* reference.c - document 01 and requests L1 to L5 and L7, sentence by sentence; words between
- * quotation marks are their own. */
+/* reference.c - document 01 and requests L1 to L5, L7 and L9, sentence by sentence; words
+ * between quotation marks are their own. */
 #include "reference.h"
 
 #include <stdbool.h>
@@ -55,11 +55,37 @@ static void put(struct writer *w, unsigned width, unsigned value)
 
 /* ---- Ticket ---- */
 
-/* "The ticket is read first, field by field"; "1 and 9 are tested before a field's value". */
+/* "for each disk, a 7-bit count of blocks already in its buffer and their 9-bit numbers in strictly
+ * rising order"; "25, a count above the slots, tested at the count; 26, a number not above the one
+ * before it, B or more, or on another disk, tested at that number" */
+static unsigned read_carried(struct reader *r, struct ref_job *job)
+{
+    memset(job->carried, 0, sizeof job->carried);
+    for (unsigned d = 0; d < job->disks; d++) {
+        unsigned count, v, least = 0;  /* least: one more than the number before */
+
+        if (!field(r, 7, &count))
+            return 1;
+        if (count > job->slots[d])
+            return 25;
+        for (unsigned k = 0; k < count; k++) {
+            if (!field(r, 9, &v))
+                return 1;
+            if (v < least || v >= job->blocks || job->disk[v] != d)
+                return 26;
+            job->carried[v] = true;
+            least = v + 1;
+        }
+    }
+    return 0;
+}
+
+/* "The ticket is read first, field by field"; "1 and 9 are tested before a field's value"; 25 and 26
+ * "both before 8". */
 static unsigned read_fields(const uint8_t *ticket, size_t n, struct ref_job *job)
 {
     struct reader r = {ticket, n, 0};
-    unsigned v;
+    unsigned v, number;
 
     if (!field(&r, 4, &job->disks))
         return 1;
@@ -93,6 +119,9 @@ static unsigned read_fields(const uint8_t *ticket, size_t n, struct ref_job *job
             return 7;
         job->reference[i] = (uint16_t)v;
     }
+    number = read_carried(&r, job);
+    if (number != 0)
+        return number;
     return closes(&r) ? 0 : 8;
 }
 
@@ -127,10 +156,36 @@ unsigned ref_references(const uint8_t *ticket, size_t n)
     return field(&r, 12, &references) ? references : 0;
 }
 
-size_t ref_write_ticket(const struct ref_job *job, uint8_t *buf, size_t room)
+/* The blocks that a disk carries in. */
+static unsigned carried_on(const struct ref_job *job, unsigned d)
+{
+    unsigned count = 0;
+
+    for (unsigned b = 0; b < job->blocks; b++)
+        count += job->carried[b] && job->disk[b] == d;
+    return count;
+}
+
+static void put_carried(struct writer *w, const struct ref_job *job, unsigned d)
+{
+    put(w, 7, carried_on(job, d));
+    for (unsigned b = 0; b < job->blocks; b++)
+        if (job->carried[b] && job->disk[b] == d)
+            put(w, 9, b);
+}
+
+static size_t ticket_length(const struct ref_job *job)
 {
     size_t bits = 4 + 7 * job->disks + 10 + 3 * job->blocks + 12 + 9 * job->references;
-    size_t len = (bits + 7) / 8;
+
+    for (unsigned d = 0; d < job->disks; d++)
+        bits += 7 + 9 * carried_on(job, d);
+    return (bits + 7) / 8;
+}
+
+size_t ref_write_ticket(const struct ref_job *job, uint8_t *buf, size_t room)
+{
+    size_t len = ticket_length(job);
     struct writer w = {buf, 0};
 
     if (len > room)
@@ -145,6 +200,8 @@ size_t ref_write_ticket(const struct ref_job *job, uint8_t *buf, size_t room)
     put(&w, 12, job->references);
     for (unsigned i = 0; i < job->references; i++)
         put(&w, 9, job->reference[i]);
+    for (unsigned d = 0; d < job->disks; d++)
+        put_carried(&w, job, d);
     return len;
 }
 
@@ -215,6 +272,19 @@ static unsigned consume(const struct ref_job *job, const struct buffers *s, unsi
     while (next_read < job->stop && s->resident[job->reference[next_read]])
         next_read++;
     return next_read;
+}
+
+/* "Every sheet for a ticket starts from the same carried blocks": they are in the buffers, and "before
+ * round 1 the suite reads as far as these allow". Gives the next read. */
+static unsigned start(const struct ref_job *job, struct buffers *s)
+{
+    memset(s, 0, sizeof *s);
+    for (unsigned b = 0; b < job->blocks; b++)
+        if (job->carried[b]) {
+            s->resident[b] = true;
+            s->held[job->disk[b]]++;
+        }
+    return consume(job, s, 0);
 }
 
 /* ---- The two plans ---- */
@@ -327,6 +397,8 @@ static void begin(const struct ref_job *job, struct run *r)
 {
     memset(r, 0, sizeof *r);
     build_lookup(job, &r->l);
+    r->next_read = start(job, &r->s);
+    keep_up(job, &r->l, 0, r->next_read);
 }
 
 /* One round: an action and its letter for each disk. */
@@ -562,8 +634,8 @@ static unsigned check_action(struct reader *r, const struct ref_job *job,
 static unsigned check_rounds(struct reader *r, const struct ref_job *job, unsigned written,
                              struct ref_counts *counts)
 {
-    struct buffers s = {{false}, {0}};
-    unsigned next_read = 0;
+    struct buffers s;
+    unsigned next_read = start(job, &s);
 
     for (unsigned round = 1; round <= written; round++) {
         bool left = next_read < job->stop;

@@ -1,4 +1,4 @@
-/* reference.h - the planner of document 01 with requests L1 to L8, written from the papers alone.
+/* reference.h - the planner of document 01 with requests L1 to L9, written from the papers alone.
  *
  * A reference to compare others with: tables and plain passes over the blocks, nothing clever.
  * Every answer "number" is 0, or the number of the refusal in documents 01 and 02. Notes, of request
@@ -6,6 +6,7 @@
 #ifndef REFERENCE_H
 #define REFERENCE_H
 
+#include <stdbool.h>
 #include <stddef.h>
 #include <stdint.h>
 
@@ -15,8 +16,8 @@ enum {
     REF_BLOCKS = 512,
     REF_REFERENCES = 2048,
     REF_ROUNDS = 2048,
-    REF_TICKET = 2507,         /* "The longest ticket has 2,507 bytes, */
-    REF_SHEET = 40962,         /*  the longest sheet 40,962." */
+    REF_TICKET = 3090,         /* the longest ticket, with all 512 blocks carried in */
+    REF_SHEET = 40962,         /* "the longest sheet 40,962" */
     REF_LINE = 17,             /* a line of a page: "16 columns and a line feed" */
     REF_LEGEND = 5,            /* "Five legend lines ... close the page" */
     REF_PAGE = (REF_ROUNDS * REF_DISKS + REF_LEGEND) * REF_LINE,  /* the longest page: 278,613 */
@@ -32,6 +33,7 @@ struct ref_job {
     unsigned disks, slots[REF_DISKS];
     unsigned blocks;
     uint8_t disk[REF_BLOCKS];  /* the disk each block lies on */
+    bool carried[REF_BLOCKS];  /* "blocks already in its buffer" */
     unsigned references;
     uint16_t reference[REF_REFERENCES];
     unsigned stop;             /* "the number of references that count", at most all */

@@ -18,15 +18,16 @@ use Rattle.job.specs.Meaning.{jobOf, Fits}
 use Rattle.job.specs.declared.Job.{Job as Stored}
 use Rattle.job.proofs.Laws.{disks-are, blocks-are, refs-are, slots-at, disk-at, ref-at}
 use Rattle.model.specs.Job.{Job, diskCount, blockCount, refCount, slotsOf, diskOf}
-use Rattle.model.specs.Playing.{Action, fetch, replace, State, start, noneResident, isResident, load, act, consumed}
+use Rattle.model.specs.Playing.{Action, fetch, replace, State, start, isResident, load, act, consumed}
 use Rattle.model.specs.Sheet.{actionReader}
 use Rattle.model.specs.Valid.{Block, Legal}
 use Rattle.model.specs.Calls.{Counts}
 use Rattle.model.proofs.Counting.{count-most}
 use Rattle.model.proofs.Sheets.{Room, ActionRead, action-read}
 use Rattle.playing.specs.declared.Buffers.{Buffers}
-use Rattle.playing.specs.Playing.{emptyBuffers, fetchInto, replaceIn, consumeOne, Holds}
-use Rattle.playing.proofs.Laws.{holds-start, holds-same, holds-some, holds-fetch, holds-replace, holds-consume}
+use Rattle.playing.specs.Playing.{startBuffers, fetchInto, replaceIn, consumeOne, Holds}
+use Rattle.playing.proofs.Started.{holds-start}
+use Rattle.playing.proofs.Laws.{holds-same, holds-some, holds-fetch, holds-replace, holds-consume}
 use Rattle.actions.specs.Actions.{actionAt, actRead}
 use Rattle.actions.specs.declared.Act.{Act}
 use Rattle.actions.specs.declared.Act.the-variants.{Idle, Fetch, Replace, Refused}
@@ -128,21 +129,27 @@ cond-same : (t : Bool) (k : ℕ) → cond t k k ≡ k
 cond-same true k = refl
 cond-same false k = refl
 
+-- the state before round 1
+started-state : {c : Stored} → Fits c → stateOf (startBuffers c) 0 ≡ start (jobOf c)
+unfolding start
+started-state {c} h = let held = holds-start c h in λ i. record { resident = held .marks i; next = held .read i; round = 0 }
+
 module _ {c : Stored} (h : Fits c) {s : List ℕ} {rounds : ℕ} where
   -- at the start
-  pub round-first : BeforeRound c s rounds emptyBuffers (replicate 8 0) 12 0 0
-  unfolding played start noneResident emptyBuffers
+  pub round-first : BeforeRound c s rounds (startBuffers c) (replicate 8 0) 12 0 0
+  unfolding played
   round-first =
       let all : rounds - 0 ≡ rounds = omega arith in
       record {
         within = omega arith;
         bounded = record {
-          holds = holds-start (jobOf c) (let e = disks-are c h in let f = h .fewDisks in omega (arith, e, f));
+          holds = subst (Holds (jobOf c) (startBuffers c)) (sym (started-state h)) (holds-start c h);
           near = omega arith;
           long = refl;
           few = λ e. (let z = getD-same {A = ℕ} 8 e 0 in omega (arith, z));
         };
-        answer = ap (λ (n : ℕ). roundsFrom (jobOf c) n (start (jobOf c)) 0 (replicate 8 0) (drop 12 (bits s))) all;
+        answer = ap (λ (n : ℕ). roundsFrom (jobOf c) n (stateOf (startBuffers c) 0) 0 (replicate 8 0) (drop 12 (bits s))) all
+            ∙ ap (λ (t : State). roundsFrom (jobOf c) rounds t 0 (replicate 8 0) (drop 12 (bits s))) (started-state h);
       }
 
   -- a round begins

@@ -1,23 +1,22 @@
--- A disk's rows stay right when it acts, when another disk acts, and when reading goes on. Assumes nothing.
+-- A disk's rows stay right when it acts, and when another disk acts. Assumes nothing.
 use mathlib.Core.Path.{_≡_, refl, sym, ap, _∙_, subst}
 use mathlib.Core.Logic.{_≢_}
 use mathlib.Core.Bool.{Bool, true, false}
 use mathlib.Core.List.{List}
 use Prim.Native.Nat.{ℕ, suc, _+_, _-_, _*_, _≤_, _<_}
 use native.Mathlib.Omega.{arith}
-use lib.Dec.{eqb, leb}
+use lib.Dec.{eqb}
 use lib.ListN.{length, getD, set}
 use lib.Seq.{getD-set-same, getD-set-other}
-use borrow.Author.Tests.{eqb-true, eqb-false, leb-true, leb-false}
-use Rattle.bits.proofs.Logic.{by-test, clash, and-false-left}
+use borrow.Author.Tests.{eqb-true, eqb-false}
+use Rattle.bits.proofs.Logic.{by-test, clash}
 use Rattle.model.specs.Job.{Job, Sound, diskCount, blockCount, refCount, slotsOf, diskOf, refAt}
 use Rattle.model.specs.Playing.{Action, fetch, replace, isResident, load, act}
 use Rattle.model.specs.Rules.{distance}
 use Rattle.model.specs.Valid.{Block, Legal}
-use Rattle.model.proofs.Counting.{count-same}
-use Rattle.model.proofs.Buffers.{entered, replaced-in, replaced-out, fetch-kept, replace-kept, act-elsewhere, apart, load-own}
-use Rattle.model.proofs.Distances.{distance-mono}
+use Rattle.model.proofs.Buffers.{entered, replaced-in, replaced-out, fetch-kept, replace-kept, act-elsewhere, apart, SameOn, load-same, load-own}
 use Rattle.lookup.proofs.Right.{Listed, Pointer, DiskRight}
+use Rattle.lookup.proofs.StaysRight.{pointer-kept}
 
 -- one place of a list of residents is written
 listed-put : (j : Job) (marks : List Bool) (d : ℕ) (residents : List ℕ) (count m u : ℕ) → m < count → d * 64 + m < length residents
@@ -118,19 +117,6 @@ pub load-over : (j : Job) (marks : List Bool) (d u v : ℕ) → blockCount j ≤
 unfolding Legal
 load-over j marks d u v long out inside = let own = load-own j marks long d (replace u v) (out, inside) in omega (arith, own)
 
--- a pointer stays where no block that is missing now is referenced before it
-pointer-kept : {j : Job} {m n : List Bool} {from d look : ℕ} {later now : List ℕ} → Pointer j m from d look later
-    → ((b : ℕ) → b < blockCount j → diskOf j b ≡ d → isResident n b ≡ false → look ≤ distance (j .refs) from b)
-    → ((b : ℕ) → b < blockCount j → diskOf j b ≡ d → getD now b 0 ≡ getD later b 0)
-    → Pointer j n from d look now
-pointer-kept p least laters = record {
-  onward = p .onward;
-  within = p .within;
-  onDisk = p .onDisk;
-  least = least;
-  laters = λ b k on. laters b k on ∙ p .laters b k on;
-}
-
 module _ {j : Job} {marks : List Bool} {from d look : ℕ} {residents later : List ℕ} (sound : Sound j)
     (right : DiskRight j marks from d residents look later) (more : look < refCount j) where
   -- the block at the pointer is missing: the disk may fetch it
@@ -182,20 +168,6 @@ module _ {j : Job} {marks : List Bool} {from d look : ℕ} {residents later : Li
         (listed-other j marks d residents (load j marks d) (place - d * 64) (refAt j look) _ long (omega (arith, few, disks)) small refl
         (right .listed) pointed))
 
--- the marks of the disk's own blocks
-
--- every block of disk d has the same mark in both
-abbrev pub SameOn : Job → ℕ → List Bool → List Bool → Type 0
-SameOn j d m n = (b : ℕ) → b < blockCount j → diskOf j b ≡ d → isResident m b ≡ isResident n b
-
-pub load-same : (j : Job) (m n : List Bool) (d : ℕ) → SameOn j d m n → load j m d ≡ load j n d
-unfolding load
-load-same j m n d same =
-    count-same _ _ (blockCount j) λ b l.
-    by-test (eqb (diskOf j b) d)
-    (λ y. rw (same b l (eqb-true (diskOf j b) d y)))
-    (λ f. and-false-left _ f ∙ sym (and-false-left _ f))
-
 block-same : {j : Job} {m n : List Bool} {d b : ℕ} {r : Bool} → isResident m b ≡ isResident n b → Block j m d b r → Block j n d b r
 block-same e h = record { known = h .known; onDisk = h .onDisk; mark = sym e ∙ h .mark }
 
@@ -240,29 +212,3 @@ disk-elsewhere {j = j} {marks = marks} {d = d} a sound other legal few places la
     (λ i l. places i (omega arith))
     (λ b k on. laters b (λ q. other (sym on ∙ q)))
     right
-
--- reading goes on over resident blocks
-pub disk-read : {j : Job} {marks : List Bool} {from d look : ℕ} {residents later : List ℕ} (p : ℕ) → from ≤ p → p ≤ refCount j
-    → ((i : ℕ) → from ≤ i → i < p → isResident marks (refAt j i) ≡ true)
-    → DiskRight j marks from d residents look later → DiskRight j marks p d residents look later
-disk-read {j = j} {marks = marks} {from = from} {look = look} p onward within read right = record {
-  listed = right .listed;
-  pointer = record {
-    onward = before;
-    within = right .pointer .within;
-    onDisk = right .pointer .onDisk;
-    least = λ b k on out.
-        (let was = right .pointer .least b k on out in
-        let grows = distance-mono (j .refs) from p b onward within in
-        omega (arith, was, grows));
-    laters = right .pointer .laters;
-  };
-  stops = right .stops;
-}
-  where
-    before : p ≤ look
-    before =
-        let first = right .pointer .onward in
-        by-test (leb p look)
-        (λ y. leb-true p look y)
-        (λ n. let less = leb-false p look n in clash (read look first less) (right .stops (omega (arith, less))))

@@ -5,7 +5,7 @@ use mathlib.Core.List.{List, _∷_, _++_, map}
 use Prim.Native.Nat.{ℕ, zero, suc, _+_, _%_, _≤_, _<_}
 use native.Mathlib.Omega.{arith}
 use lib.Dec.{ltb}
-use lib.ListN.{length, getD, set, drop, length-set, drop-of-length-le}
+use lib.ListN.{length, getD, drop, drop-of-length-le}
 use lib.Seq.{drop-cons, take-all}
 use borrow.Author.Tests.{ltb-true, ltb-false}
 use Rattle.bits.proofs.Logic.{by-test, and-true, and-false-left, and-false-right}
@@ -18,15 +18,13 @@ use Rattle.model.specs.Page.{reason, reasonsOf}
 use Rattle.model.specs.Valid.{Ready}
 use Rattle.model.proofs.Plans.{each-cong, actionsOf, plan-round}
 use Rattle.model.proofs.Rounds.{ready-after}
-use Rattle.lookup.specs.Desk.{cell, nexts, laters, helds, looks, withCell, ofBlock}
-use Rattle.lookup.proofs.Laws.{pass-distance}
-use Rattle.lookup.proofs.Rows.{row-other, row-same}
+use Rattle.lookup.specs.Desk.{cell, withCell, ofBlock}
 use Rattle.playing.specs.Playing.{consumeOne}
 use Rattle.playing.proofs.Laws.{holds-same, holds-consume}
 use Rattle.choosing.specs.Choosing.{ruleOf}
 use Rattle.choosing.specs.declared.Rule.{Rule}
 use Rattle.lookup.proofs.Right.{Forward}
-use Rattle.choosing.proofs.DiskStaysRight.{disk-read}
+use Rattle.lookup.proofs.StaysRight.{reading, right-read}
 use Rattle.writing.specs.Writing.{actionIn, actionsIn, reasonsIn}
 use Rattle.driving.specs.Driving.{PlanInput, PlanState, readNext, canRead, readFrom, allActed, roundFrom, drivenFrom, reasonsFrom}
 use Rattle.driving.proofs.Input.{inputOf}
@@ -70,27 +68,12 @@ module _ (rule : Rule) (j : Job) (sound : Sound j) {steps : List (List ℕ)} (fo
   abbrev k : PlanInput
   k = inputOf j steps rule
 
-  -- the state with these marks and this next read
-  abbrev reading : List Bool → ℕ → State
-  reading marks i = record { resident = marks; next = i; round = 0 }
-
   -- one reference is read
   stands-read : (marks : List Bool) (i : ℕ) (p : PlanState) → StandsFor j (reading marks i) p → i < refCount j → isResident marks (refAt j i) ≡ true
       → StandsFor j (reading marks (suc i)) (readNext k p)
   unfolding consumeOne
   stands-read marks i p h due here =
       let at : p .buffers .next ≡ i = h .holds .read in
-      let b = refAt j i in
-      let v = getD (ofBlock steps) i 0 in
-      let desk = withCell (p .desk) 0 b v in
-      let rows = h .right .rows in
-      let long = h .right .longNexts in
-      let few = sound .fewBlocks in
-      let known = sound .toBlocks i due in
-      let new : nexts desk ≡ set (nexts (p .desk)) b v = row-same (p .desk) 0 b v (omega (arith, rows)) in
-      let later : laters desk ≡ laters (p .desk) = row-other (p .desk) 0 1 b v (λ e. omega (arith, e)) in
-      let held : helds desk ≡ helds (p .desk) = row-other (p .desk) 0 2 b v (λ e. omega (arith, e)) in
-      let look : looks desk ≡ looks (p .desk) = row-other (p .desk) 0 3 b v (λ e. omega (arith, e)) in
       subst (λ (x : ℕ). StandsFor j (reading marks (suc i)) (record {
         buffers = consumeOne (p .buffers);
         desk = withCell (p .desk) 0 (refAt j x) (getD (ofBlock steps) x 0);
@@ -98,19 +81,7 @@ module _ (rule : Rule) (j : Job) (sound : Sound j) {steps : List (List ℕ)} (fo
       })) (sym at)
       (record {
         holds = holds-consume j (p .buffers) (reading marks i) (h .holds);
-        right = record {
-          disks = rw (later, held, look)
-              (λ d l. disk-read (suc i) (omega arith) due
-              (λ x lo hi. let e : x ≡ i = omega arith in ap (λ (y : ℕ). isResident marks (refAt j y)) e ∙ here) (h .right .disks d l));
-          distances = λ c l. ap (λ (x : List ℕ). getD x c 0) new
-              ∙ pass-distance (j .refs) (nexts (p .desk)) i v c due (omega (arith, known, few, long)) (forward .blocks i due)
-              (h .right .distances c l);
-          rows = length-set (p .desk) 0 (set (nexts (p .desk)) b v) ∙ rows;
-          longNexts = ap length new ∙ length-set (nexts (p .desk)) b v ∙ long;
-          longLaters = ap length later ∙ h .right .longLaters;
-          longHelds = ap length held ∙ h .right .longHelds;
-          longLooks = ap length look ∙ h .right .longLooks;
-        };
+        right = right-read marks i sound forward (h .right) due here;
         rows = h .rows;
         longFetched = h .longFetched;
         longDiscarded = h .longDiscarded;

@@ -16,7 +16,7 @@ use Rattle.model.specs.Rules.{overMinBlock, action, distance, distanceNow}
 use Rattle.model.specs.Rules.{Choice as RuleChoice, Rule as JobRule}
 use Rattle.model.specs.Page.{reason}
 use Rattle.model.specs.Valid.{Block, Legal, LegalAll, Ready}
-use Rattle.model.proofs.Buffers.{legal-take, taken, load-round}
+use Rattle.model.proofs.Buffers.{legal-take, taken, SameOn, load-same, load-round}
 use Rattle.model.proofs.Choosing.{Lawful, short-lawful, sparing-lawful, nothing, into, sooner, waiting, over, RuleView}
 use Rattle.model.proofs.Rounds.{own-action}
 use Rattle.model.proofs.Plans.{actionsOf, actions-at, plan-round}
@@ -30,7 +30,7 @@ use Rattle.choosing.specs.declared.Rule.the-variants.{Short, Sparing}
 use Rattle.choosing.specs.declared.Choice.{Choice}
 use Rattle.choosing.specs.declared.Choice.the-variants.{IntoEmpty, OverMinBlock, MinBlockSooner, Waits, NoneMissing}
 use Rattle.lookup.proofs.Right.{Listed, Pointer, DiskRight, Right, Forward}
-use Rattle.choosing.proofs.DiskStaysRight.{SameOn, disk-same, disk-elsewhere, load-same, pointed, pointer-into}
+use Rattle.choosing.proofs.DiskStaysRight.{disk-same, disk-elsewhere, pointed, pointer-into}
 use Rattle.choosing.proofs.DiskStaysRight.{pointer-over, listed-into, listed-over, places-elsewhere}
 use Rattle.moving.proofs.PointerRight.{Moved, forward-ahead}
 use Rattle.choosing.proofs.Chosen.{Chooses, choice-is, choice-placed, Placed}

@@ -17,8 +17,8 @@ use Rattle.model.specs.Plans.{each}
 use Rattle.model.specs.Sheet.{roundBits, roundsBits, sheetBits}
 use Rattle.model.proofs.Charged.{total-after, total-most}
 use Rattle.model.proofs.Longest.{length-rounds}
-use Rattle.model.proofs.Plans.{length-each}
-use Rattle.model.proofs.Bytes.{getD-each, rounds-bits}
+use Rattle.model.proofs.Plans.{length-each, getD-each}
+use Rattle.model.proofs.Bytes.{rounds-bits}
 use Rattle.writing.specs.Heading.{headed}
 use Rattle.writing.specs.Tallying.{tallied}
 use Rattle.writing.specs.Writing.{actionIn, actionsIn}

@@ -9,4 +9,7 @@ pub struct Job {
     // references that count, N of them or as many as a stop says, and the block of each
     pub count: usize,
     pub refs: [u16; 2048],
+    // how many blocks are carried in on each disk (document 02, L9), and those of disk d in rising order, from d * 64 on
+    pub held: [u8; 8],
+    pub carried: [u16; 512],
 }

@@ -2,3 +2,4 @@ mod Backward
 pub mod Laws
 pub mod Rows
 pub mod Right
+pub mod StaysRight

@@ -2,10 +2,10 @@
 // and kept up in constant time a reference. The steps lead from each reference to the next. How a position is held is known here only.
 ghost use mathlib.Core.Path.{_≡_};
 ghost use Prim.Native.Nat.{_<_, _≤_};
-ghost use lib.ListN.{length, getD};
+ghost use lib.ListN.{length, getD, set};
 ghost use Rattle.bits.specs.Bits.{Below};
 ghost use Rattle.lookup.specs.Lookup.{firsts, agains, refDisks};
-ghost use Rattle.lookup.specs.Desk.{cell, withCell, ofBlock, ofDisk, opened, stepped};
+ghost use Rattle.lookup.specs.Desk.{HELD, cell, withCell, ofBlock, ofDisk, opened, stepped};
 
 // A position in the reference list. "Never" is the list's length. Document 02, L4: "none exceeds 2048. .. Hold them inside as 16-bit numbers, with
 // every cast shown to lose nothing; callers are untouched."
@@ -93,6 +93,13 @@ pub fn open(refs: &[u16], disk_of: &[u16; 512], desk: &mut Desk, steps: &mut Ste
     index(refs, &mut desk[NEXT], &mut steps[OF_BLOCK]);
     desk[LATER] = desk[NEXT];
     chain(refs, disk_of, &mut desk[LOOK], &mut steps[OF_DISK]);
+}
+
+// The residents of all disks, those of disk d from d * 64 on.
+pub fn hold(desk: &mut Desk, residents: &Row)
+    ensures { λ _. ⌜ now (desk .exit) ≡ set (now (desk .entry)) HELD (now (residents .entry)) ⌝ }
+{
+    desk[HELD] = *residents;
 }
 
 // Reading or a pointer passes a reference: in the given row, the cell of its block becomes the block's next reference.

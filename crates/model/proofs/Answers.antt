@@ -7,9 +7,10 @@ use mathlib.Core.List.{List, [], _∷_, _++_, map}
 use Prim.Native.Nat.{ℕ, zero, suc, _/_, _%_, _^_}
 use Prim.Native.String.{String}
 use native.Mathlib.Omega.{arith}
+use lib.ListN.{length, replicate}
 use Rattle.bits.specs.Reading.{Answer, given, refused, bind, _>>=_, _>>_, give, field, refuseIf, many, isClosed, closing, answer, readAll}
 use Rattle.model.specs.Job.{Job, upTo}
-use Rattle.model.specs.Ticket.{slotsField, diskField, refField, ticketReader, ticketOf}
+use Rattle.model.specs.Ticket.{slotsField, diskField, refField, carriedBlocks, carriedField, carriedFields, ticketReader, ticketOf}
 use Rattle.model.specs.Playing.{fetch, replace, Schedule, noneResident, start, load, play}
 use Rattle.model.specs.Text.{text}
 use Rattle.model.specs.Page.{ended}
@@ -85,8 +86,12 @@ ticketIn (chooseFromC t first second lent) = t
 abbrev row : (c : Call) (o : Outcome) → outcome (referencesOf (ticketOf (ticketIn c))) c ≡ o → Case
 row c o e = rowUpTo (referencesOf (ticketOf (ticketIn c))) c o e
 
+-- the job of a ticket in which every count of carried blocks is 0, and of any ticket
 abbrev jobWith : List ℕ → List ℕ → List ℕ → Outcome
-jobWith slots disks refs = job (record { slots = slots; blockDisks = disks; refs = refs })
+jobWith slots disks refs = job (record { slots = slots; blockDisks = disks; refs = refs; carried = replicate (length slots) [] })
+
+abbrev jobCarrying : List ℕ → List ℕ → List ℕ → List (List ℕ) → Outcome
+jobCarrying slots disks refs carried = job (record { slots = slots; blockDisks = disks; refs = refs; carried = carried })
 
 -- rounds, and the fetches of disks 0 and 1; the other six disks have none
 abbrev counts : ℕ → ℕ → ℕ → Counts
@@ -104,25 +109,25 @@ chose w n = hands (record { which = w; sheetLength = n })
 
 -- the tickets of document 01's jobs
 abbrev ticketA : List ℕ
-ticketA = hex 6 0x102008001000
+ticketA = hex 7 0x10200800100000
 
 abbrev ticketB : List ℕ
-ticketB = hex 5 0x1020080000
+ticketB = hex 6 0x102008000000
 
 abbrev ticketC : List ℕ
-ticketC = hex 9 0x102010000600008000
+ticketC = hex 10 0x10201000060000800000
 
 abbrev ticketD : List ℕ
-ticketD = hex 11 0x2020404009004000080601
+ticketD = hex 13 0x20204040090040000806010000
 
 abbrev ticketE : List ℕ
-ticketE = hex 11 0x20204040090040100c0001
+ticketE = hex 13 0x20204040090040100c00010000
 
 abbrev ticketF : List ℕ
-ticketF = hex 15 0x2020805009200e020180002020200c
+ticketF = hex 17 0x2020805009200e020180002020200c0000
 
 abbrev ticketG : List ℕ
-ticketG = hex 32 0x2060c080002490150000404040180002050301c0404028180001010100600008
+ticketG = hex 34 0x2060c080002490150000404040180002050301c04040281800010101006000080000
 
 -- one disk, two slots, two blocks, string 0 1
 abbrev pub ticketTwo : List ℕ
@@ -130,7 +135,7 @@ ticketTwo = hex 8 0x1040100004000080
 
 -- that job, and a schedule in which block 1 replaces block 0 beside the empty slot; with one slot it replaces it in the full one
 abbrev pub jobTwo : Job
-jobTwo = record { slots = 2 ∷ []; blockDisks = 0 ∷ 0 ∷ []; refs = 0 ∷ 1 ∷ [] }
+jobTwo = record { slots = 2 ∷ []; blockDisks = 0 ∷ 0 ∷ []; refs = 0 ∷ 1 ∷ []; carried = [] ∷ [] }
 
 abbrev pub replacing : Schedule
 replacing = (fetch 0 ∷ []) ∷ (replace 1 0 ∷ []) ∷ []
@@ -139,19 +144,20 @@ pub beside-empty : discardsFullFrom jobTwo (start jobTwo) replacing ≡ false
 unfolding discardsFullFrom start noneResident load
 beside-empty = refl
 
-pub in-full : (let j : Job = record { slots = 1 ∷ []; blockDisks = 0 ∷ 0 ∷ []; refs = 0 ∷ 1 ∷ [] } in discardsFullFrom j (start j) replacing) ≡ true
+pub in-full : (let j : Job = record { slots = 1 ∷ []; blockDisks = 0 ∷ 0 ∷ []; refs = 0 ∷ 1 ∷ []; carried = [] ∷ [] } in discardsFullFrom j (start j) replacing) ≡ true
 unfolding discardsFullFrom start noneResident load
 in-full = refl
 
 -- A job of Theorem 8 (document 000): two disks with two slots and four blocks each, and sixteen references four times.
 abbrev ticketWaiting : List ℕ
-ticketWaiting = hex 80 0x2040808000249040018000200038100a04008080602028180e06018000200038100a04008080602028180e06018000200038100a04008080602028180e06018000200038100a04008080602028180e06
+ticketWaiting = hex 82 0x2040808000249040018000200038100a04008080602028180e06018000200038100a04008080602028180e06018000200038100a04008080602028180e06018000200038100a04008080602028180e060000
 
 abbrev pub jobWaiting : Job
 jobWaiting = record {
   slots = 2 ∷ 2 ∷ [];
   blockDisks = 0 ∷ 0 ∷ 0 ∷ 0 ∷ 1 ∷ 1 ∷ 1 ∷ 1 ∷ [];
   refs = let l : List ℕ = 3 ∷ 0 ∷ 1 ∷ 0 ∷ 7 ∷ 4 ∷ 5 ∷ 4 ∷ 1 ∷ 2 ∷ 3 ∷ 2 ∷ 5 ∷ 6 ∷ 7 ∷ 6 ∷ [] in l ++ l ++ l ++ l;
+  carried = [] ∷ [] ∷ [];
 }
 
 abbrev countsShort : Counts
@@ -175,17 +181,21 @@ abbrev ticketTen : List ℕ
 ticketTen = hex 17 0x1020100014000080002000080002000080
 
 abbrev ticketHundred : List ℕ
-ticketHundred = hex 45 0x102328000000000000000000000000000000000000000000000000000000000000000000000000000002320280
+ticketHundred = hex 46 0x10232800000000000000000000000000000000000000000000000000000000000000000000000000000232028000
 
 -- slots 2 and 1, blocks 0 to 2 and 3 to 5, string 3 4 5 0 1 2 1 0
 abbrev ticketBoth : List ℕ
-ticketBoth = hex 17 0x2040406001240200604028000202008000
+ticketBoth = hex 18 0x204040600124020060402800020200800000
 
 -- one disk, two slots, three blocks, string 0 1 2 1
 abbrev ticketAgain : List ℕ
-ticketAgain = hex 10 0x10401800010000101004
+ticketAgain = hex 11 0x1040180001000010100400
 
--- the lines of the pages of F, of G, of G up to 5, and of two of these jobs
+-- F with 1 carried in on disk 0, and 2 and 3 on disk 1, whose slots are then all taken
+abbrev ticketFull : List ℕ
+ticketFull = hex 20 0x2020805009200e020180002020200c0804100806
+
+-- the lines of the pages of F, of G, of G up to 5, and of three of these jobs
 abbrev linesF : List String
 linesF =
     "   1 0   0 --- E" ∷
@@ -240,6 +250,16 @@ linesBoth =
     "   5 1 --- --- N" ∷
     []
 
+abbrev linesFull : List String
+linesFull =
+    "   1 0   0   1 M" ∷
+    "   1 1 --- --- W" ∷
+    "   2 0   1   0 M" ∷
+    "   2 1 --- --- W" ∷
+    "   3 0 --- --- N" ∷
+    "   3 1   4   2 M" ∷
+    []
+
 abbrev linesTen : List String
 linesTen =
     "   1 0   0 --- E" ∷
@@ -254,11 +274,11 @@ linesTen =
     "  10 0   1   0 M" ∷
     []
 
--- Where two tests that follow each other can both refuse, a row says which one does. These cannot: 1 inside the last reference and 8; 10 and the end
+-- Where two tests that follow each other can both refuse, a row says which one does. These cannot: 1 inside the last carried block and 8; 10 and the end
 -- inside the first fetch bit, since a sheet has whole bytes; 11 for a block of B or more and 12, since no such block is ever in a buffer; 13
 -- and either of 20 and 14, since the discard bit leads to 13 or to those two.
 pub table : List Case
-unfolding hex outcome ticketIn stopAt upTo jobUpTo text ended _>>=_ _>>_ bind give field refuseIf many isClosed closing answer readAll slotsField diskField refField ticketReader ticketOf discardReader fetchReader actionReader roundReader roundsReader sheetReader scheduleRead play load noneResident
+unfolding hex outcome ticketIn stopAt upTo jobUpTo text ended _>>=_ _>>_ bind give field refuseIf many isClosed closing answer readAll slotsField diskField refField carriedBlocks carriedField carriedFields ticketReader ticketOf discardReader fetchReader actionReader roundReader roundsReader sheetReader scheduleRead play load noneResident
 table =
     -- A: "one disk, one slot, one block, string 0. Both sheets 00 18 00; 1 round; sparing"
     row (read ticketA) (jobWith (1 ∷ []) (0 ∷ []) (0 ∷ [])) refl ∷
@@ -297,8 +317,8 @@ table =
     row (planInto ticketF 14 11) (planned isSparing 11 (counts 4 2 4) (counts 4 2 3) (hex 14 0x00480101101a018020480d01c080) (hex 11 0x00480101101a0180081202)) refl ∷
     row (planInto ticketF 13 11) (number 17) refl ∷
     row (planInto ticketF 14 10) (number 18) refl ∷
-    row (planInto (hex 7 0x10200800100000) 0 0) (number 8) refl ∷
-    row (planInto (hex 7 0x10200800100000) 40962 0) (number 8) refl ∷
+    row (planInto (hex 8 0x1020080010000000) 0 0) (number 8) refl ∷
+    row (planInto (hex 8 0x1020080010000000) 40962 0) (number 8) refl ∷
     -- The order of a ticket's refusals. 1 comes before the value of the field in which the ticket ends. With zeros for the bits that are missing,
     -- it would be 0 and 120 slots; B 0 and 992; disk 6 of 1; N 4080; references 0 and 448 of 1 block. (D 0: the empty ticket of K.)
     row (plan (hex 1 0x10)) (number 1) refl ∷
@@ -324,11 +344,13 @@ table =
     row (plan (hex 3 0x102009)) (number 5) refl ∷
     row (plan (hex 5 0x1020088010)) (number 6) refl ∷
     row (plan (hex 6 0x102008002008)) (number 7) refl ∷
-    -- The last reference, 1 of 1 block, comes before the closing bits 001 and before a byte more: 7, and then 8 for each of the two by itself.
-    row (plan (hex 6 0x102008001009)) (number 7) refl ∷
-    row (plan (hex 7 0x10200800100800)) (number 7) refl ∷
-    row (plan (hex 6 0x102008001001)) (number 8) refl ∷
-    row (plan (hex 7 0x10200800100000)) (number 8) refl ∷
+    -- The last reference, 1 of 1 block, comes before the end inside the count of carried blocks, before the closing bits 0001 and before a byte more: 7,
+    -- and then 8 for each of the last two by itself.
+    row (plan (hex 6 0x102008001008)) (number 7) refl ∷
+    row (plan (hex 7 0x10200800100801)) (number 7) refl ∷
+    row (plan (hex 8 0x1020080010080000)) (number 7) refl ∷
+    row (plan (hex 7 0x10200800100001)) (number 8) refl ∷
+    row (plan (hex 8 0x1020080010000000)) (number 8) refl ∷
     -- The ticket comes before the sheet: a ticket for each number with the empty sheet, and the last with a sheet of 2,049 rounds.
     row (check [] []) (number 1) refl ∷
     row (check (hex 1 0x00) []) (number 2) refl ∷
@@ -337,8 +359,8 @@ table =
     row (check (hex 3 0x102009) []) (number 5) refl ∷
     row (check (hex 5 0x1020088010) []) (number 6) refl ∷
     row (check (hex 6 0x102008001008) []) (number 7) refl ∷
-    row (check (hex 6 0x102008001001) []) (number 8) refl ∷
-    row (check (hex 6 0x102008001001) (hex 2 0x8010)) (number 8) refl ∷
+    row (check (hex 7 0x10200800100001) []) (number 8) refl ∷
+    row (check (hex 7 0x10200800100001) (hex 2 0x8010)) (number 8) refl ∷
     -- The order of a sheet's refusals. 9 comes before the value of the field in which the sheet ends. With zeros for the bits that are missing, it
     -- would be 0 and 4,080 rounds; fetches of block 448 of 1, with D's ticket of block 0 by disk 1, and of block 0 again; with C's ticket nothing
     -- discarded though the one slot is taken, and a discard of block 0, which is not in it; with ones for them and A's ticket, a
@@ -411,7 +433,7 @@ table =
     row (check ticketTwo (hex 6 0x00280100c001)) (number 20) refl ∷
     row (check ticketTwo (hex 7 0x00280100c00000)) (number 20) refl ∷
     -- Where every slot is taken the discard passes: two slots, three blocks, and block 2 replaces block 0. A choice has the check's number.
-    row (check (hex 9 0x1040180000c0001010) (hex 7 0x00380100a02800)) (passes (counts 3 3 0)) refl ∷
+    row (check (hex 10 0x1040180000c000101000) (hex 7 0x00380100a02800)) (passes (counts 3 3 0)) refl ∷
     row (choose ticketTwo (hex 6 0x00280100c000) (hex 2 0x0000)) (number 20) refl ∷
     row (choose ticketTwo (hex 5 0x0028010080) (hex 6 0x00280100c000)) (number 20) refl ∷
     -- Request L1: "The second is handed back if it takes no more rounds than the first, otherwise the first". F's two sheets of 4 rounds, in either
@@ -422,7 +444,7 @@ table =
     row (choose ticketG (hex 23 0x0078010220140a809032038090140703c0c81a0780e020) (hex 23 0x0068010220140a8090320380a078120280e0481e038080)) (chose isSecond 23) refl ∷
     -- "both are checked, the first before the second": the ticket's number before either sheet's; the first's before the second's, in both orders;
     -- and the number of a bad sheet beside a good one.
-    row (choose (hex 6 0x102008001001) [] (hex 2 0x0000)) (number 8) refl ∷
+    row (choose (hex 7 0x10200800100001) [] (hex 2 0x0000)) (number 8) refl ∷
     row (choose ticketA [] (hex 2 0x0000)) (number 9) refl ∷
     row (choose ticketA (hex 2 0x0000) []) (number 15) refl ∷
     row (choose ticketA (hex 3 0x001801) (hex 3 0x001800)) (number 16) refl ∷
@@ -442,7 +464,7 @@ table =
     row (page ticketF 14 11 220) (number 19) refl ∷
     row (page ticketF 14 10 0) (number 18) refl ∷
     row (page ticketF 13 11 0) (number 17) refl ∷
-    row (page (hex 7 0x10200800100000) 40962 40962 0) (number 8) refl ∷
+    row (page (hex 8 0x1020080010000000) 40962 40962 0) (number 8) refl ∷
     -- Request L5: "the number of references that count; none at or past it is consumed". A up to 0, and G up to 5, where disk 1 has no U after block
     -- 4: its plans, a check of them, a choice, and the page. G's own short sheet also passes there, and A's passes for no reference.
     rowUpTo 0 (read ticketA) (jobWith (1 ∷ []) (0 ∷ []) []) refl ∷
@@ -472,11 +494,11 @@ table =
     rowUpTo 1 (plan ticketB) (number 21) refl ∷
     rowUpTo 1 (plan []) (number 1) refl ∷
     rowUpTo 18446744073709551615 (plan []) (number 1) refl ∷
-    rowUpTo 18446744073709551615 (plan (hex 6 0x102008001001)) (number 8) refl ∷
-    rowUpTo 2 (planInto (hex 6 0x102008001001) 0 0) (number 8) refl ∷
-    rowUpTo 2 (page (hex 7 0x10200800100000) 0 0 0) (number 8) refl ∷
-    rowUpTo 2 (check (hex 6 0x102008001001) []) (number 8) refl ∷
-    rowUpTo 2 (choose (hex 7 0x10200800100000) [] []) (number 8) refl ∷
+    rowUpTo 18446744073709551615 (plan (hex 7 0x10200800100001)) (number 8) refl ∷
+    rowUpTo 2 (planInto (hex 7 0x10200800100001) 0 0) (number 8) refl ∷
+    rowUpTo 2 (page (hex 8 0x1020080010000000) 0 0 0) (number 8) refl ∷
+    rowUpTo 2 (check (hex 7 0x10200800100001) []) (number 8) refl ∷
+    rowUpTo 2 (choose (hex 8 0x1020080010000000) [] []) (number 8) refl ∷
     -- A refusal by the stop writes nothing, from C.
     rowUpTo 2 (planFromC ticketA (hex 3 0xffffff)) (writes (hex 3 0xffffff)) refl ∷
     rowUpTo 2 (checkFromC ticketA (hex 3 0x001800) (hex 3 0xffffff)) (writes (hex 3 0xffffff)) refl ∷
@@ -501,6 +523,69 @@ table =
     -- Request L8: the sparing plan takes more rounds than the short one, by more than D − 1 = 1 times, and saves no fetch by it.
     row (read ticketWaiting) (job jobWaiting) refl ∷
     row (plan ticketWaiting) (planned isShort 83 countsShort countsWaiting (hex 83 0x01280d03a00408806034050040b03c0700c0d024010140f02c0301c09034050040b03c0700c0d024010140f02c0301c09034050040b03c0700c0d024010140f02c0301c09034050040b03c0700c0d022078140) (hex 86 0x01e80d03a004088060320581e0280501c0040d02a078120080d00c0440903a0581a0280501c0040d02a078120080d00c0440903a0581a0280501c0040d02a078120080d00c0480a008120740b0340700c0d022078140)) refl ∷
+    -- Request L9: "After the references a ticket now has, for each disk, a 7-bit count of blocks already in its buffer and their 9-bit numbers in
+    -- strictly rising order." A with its block carried in: nothing has to be fetched, an idle round is not charged, and the block is there.
+    row (read (hex 8 0x1020080010001000)) (jobCarrying (1 ∷ []) (0 ∷ []) (0 ∷ []) ((0 ∷ []) ∷ [])) refl ∷
+    row (plan (hex 8 0x1020080010001000)) (planned isSparing 2 (counts 0 0 0) (counts 0 0 0) (hex 2 0x0000) (hex 2 0x0000)) refl ∷
+    row (check (hex 8 0x1020080010001000) (hex 2 0x0000)) (passes (counts 0 0 0)) refl ∷
+    row (check (hex 8 0x1020080010001000) (hex 2 0x0010)) (passes (counts 0 0 0)) refl ∷
+    row (check (hex 8 0x1020080010001000) (hex 3 0x001800)) (number 12) refl ∷
+    -- "25, a count above the slots, tested at the count": 1 comes before it, where the ticket ends inside the count (111 of 7 bits), and 7 of the last
+    -- reference; it comes before the end inside a number, and before a number that is 1 of 1 block.
+    row (plan (hex 6 0x102008001007)) (number 1) refl ∷
+    row (plan (hex 7 0x10200800100820)) (number 7) refl ∷
+    row (plan (hex 7 0x10200800100020)) (number 25) refl ∷
+    row (plan (hex 9 0x102008001000200804)) (number 25) refl ∷
+    -- "26, a number not above the one before it, B or more, or on another disk, tested at that number": 1 comes before it, where the ticket ends inside
+    -- the number (0000 and 1111 of 9 bits). Of one disk with two slots and three blocks: 0 and 0, 1 and 0, 3; then 0 and 2, as many as there are slots.
+    row (plan (hex 7 0x10200800100010)) (number 1) refl ∷
+    row (plan (hex 7 0x1020080010001f)) (number 1) refl ∷
+    row (plan (hex 8 0x1020080010001008)) (number 26) refl ∷
+    row (plan (hex 12 0x1040180000c0001010200000)) (number 26) refl ∷
+    row (plan (hex 12 0x1040180000c0001010200800)) (number 26) refl ∷
+    row (plan (hex 11 0x1040180000c00010101018)) (number 26) refl ∷
+    row (read (hex 12 0x1040180000c0001010200008)) (jobCarrying (2 ∷ []) (0 ∷ 0 ∷ 0 ∷ []) (0 ∷ 1 ∷ 2 ∷ []) ((0 ∷ 2 ∷ []) ∷ [])) refl ∷
+    row (plan (hex 12 0x1040180000c0001010200008)) (planned isSparing 4 (counts 1 1 0) (counts 1 1 0) (hex 4 0x00180600) (hex 4 0x00180600)) refl ∷
+    -- A number that is refused comes before the end inside the next one. Two disks with a slot each, D's: block 2 on disk 0 and block 1 on disk 1; of the
+    -- first disk 26 comes before 25 of the second, and 25 before 26; a number of the second disk may be below one of the first.
+    row (plan (hex 11 0x1040180000c00010102018)) (number 26) refl ∷
+    row (plan (hex 14 0x2020404009004000080601020200)) (number 26) refl ∷
+    row (plan (hex 14 0x2020404009004000080601000402)) (number 26) refl ∷
+    row (plan (hex 17 0x2020404009004000080601020204020180)) (number 26) refl ∷
+    row (plan (hex 17 0x2020404009004000080601040000810080)) (number 25) refl ∷
+    row (read (hex 11 0x2020402200040004020400)) (jobCarrying (1 ∷ 1 ∷ []) (1 ∷ 0 ∷ []) (0 ∷ []) ((1 ∷ []) ∷ (0 ∷ []) ∷ [])) refl ∷
+    -- "both before 8": with a closing bit that is 1, and with a byte more; 8 by itself then. And so before 21, and before anything of a sheet or a room.
+    row (plan (hex 7 0x10200800100021)) (number 25) refl ∷
+    row (plan (hex 8 0x1020080010002000)) (number 25) refl ∷
+    row (plan (hex 8 0x1020080010001009)) (number 26) refl ∷
+    row (plan (hex 9 0x102008001000100800)) (number 26) refl ∷
+    row (plan (hex 8 0x1020080010001001)) (number 8) refl ∷
+    row (plan (hex 9 0x102008001000100000)) (number 8) refl ∷
+    rowUpTo 2 (planInto (hex 7 0x10200800100020) 0 0) (number 25) refl ∷
+    rowUpTo 2 (check (hex 7 0x10200800100020) []) (number 25) refl ∷
+    rowUpTo 2 (page (hex 7 0x10200800100020) 0 0 0) (number 25) refl ∷
+    rowUpTo 2 (choose (hex 7 0x10200800100020) [] []) (number 25) refl ∷
+    rowUpTo 2 (planInto (hex 8 0x1020080010001008) 0 0) (number 26) refl ∷
+    rowUpTo 2 (check (hex 8 0x1020080010001008) []) (number 26) refl ∷
+    rowUpTo 2 (page (hex 8 0x1020080010001008) 0 0 0) (number 26) refl ∷
+    rowUpTo 2 (choose (hex 8 0x1020080010001008) [] []) (number 26) refl ∷
+    -- "Before round 1 the suite reads as far as these allow": F with 1 carried in on disk 0, and 2 and 3 on disk 1, reads 2 3; up to 2 that is all.
+    row (plan ticketFull) (planned isSparing 10 (counts 3 2 2) (counts 3 2 1) (hex 12 0x003802018120380600203810) (hex 10 0x00380201403001024040)) refl ∷
+    row (check ticketFull (hex 12 0x003802018120380600203810)) (passes (counts 3 2 2)) refl ∷
+    row (check ticketFull (hex 10 0x00380201403001024040)) (passes (counts 3 2 1)) refl ∷
+    row (page ticketFull 40962 40962 278613) (pageWith linesFull) refl ∷
+    rowUpTo 2 (plan ticketFull) (planned isSparing 2 (counts 0 0 0) (counts 0 0 0) (hex 2 0x0000) (hex 2 0x0000)) refl ∷
+    row (choose ticketFull (hex 12 0x003802018120380600203810) (hex 10 0x00380201403001024040)) (chose isSecond 10) refl ∷
+    -- Nothing is discarded though every slot is taken, by a block carried in: 13. A block that was carried in and discarded is gone: fetched again it
+    -- is no 12, discarded again it is 14.
+    row (check ticketFull (hex 3 0x001800)) (number 13) refl ∷
+    row (check ticketFull (hex 12 0x003802014030040901a03808)) (passes (counts 3 2 2)) refl ∷
+    row (check ticketFull (hex 7 0x00280201403008)) (number 14) refl ∷
+    -- "a disk whose slots are all taken by blocks never read": the highest goes first. One disk, two slots, blocks 0 to 3, string 0 1, with 2 and 3.
+    row (plan (hex 11 0x1040200000100002080403)) (planned isSparing 7 (counts 2 2 0) (counts 2 2 0) (hex 7 0x00280203806020) (hex 7 0x00280203806020)) refl ∷
+    -- A slot that is empty beside a block carried in: a discard is 20. One disk, two slots, two blocks, string 0 1, with 1.
+    row (plan (hex 10 0x10401000040000810080)) (planned isSparing 3 (counts 1 1 0) (counts 1 1 0) (hex 3 0x001800) (hex 3 0x001800)) refl ∷
+    row (check (hex 10 0x10401000040000810080) (hex 4 0x00180201)) (number 20) refl ∷
     -- From C: "in 16 bits each and most significant byte first: for planning the mark (0 short, 1 sparing), the length of the part, then for the
     -- short and for the sparing plan the rounds and eight fetch counts; for the check the rounds and eight fetch counts", and by L1 "0 (first) or 1
     -- (second) and that sheet's length". "As far as that slice reaches", and no byte more; "a refusal writes nothing there".

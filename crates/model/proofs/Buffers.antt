@@ -1,5 +1,6 @@
--- Document 01, "Playing a round": "At each moment the blocks in a disk's buffer number its fetches so far less its discards so far", and "No disk
--- ever holds more blocks than its slots." Assumes nothing.
+-- Marks and loads after actions, and at each moment of a schedule. Document 01, "Playing a round": "At each moment the blocks in a disk's buffer
+-- number its fetches so far less its discards so far", and "No disk ever holds more blocks than its slots": here from any state, in `Carried` from
+-- the blocks carried in. Assumes nothing.
 use mathlib.Core.Path.{_≡_, refl, sym, ap, _∙_}
 use mathlib.Core.Logic.{_≢_, _⊎_, inl, inr, ⊎-elim}
 use mathlib.Core.Bool.{Bool, true, false, _&&_}
@@ -7,12 +8,12 @@ use mathlib.Core.List.{List, [], _∷_}
 use Prim.Native.Nat.{ℕ, zero, suc, _+_, _≤_, _<_}
 use native.Mathlib.Omega.{arith}
 use lib.Dec.{eqb, ltb}
-use lib.ListN.{length, getD, set, take, length-set, length-replicate, List·getD-eq-default}
+use lib.ListN.{length, getD, set, take, length-set, List·getD-eq-default}
 use lib.Seq.{getD-set-same, getD-set-other}
 use borrow.Author.Tests.{eq-eqb, eqb-true, eqb-false, ltb-true, ltb-false}
 use Rattle.bits.proofs.Logic.{by-test, clash, and-false-left, and-false-right, getD-same}
 use Rattle.model.specs.Job.{Job, diskCount, blockCount, slotsOf, diskOf}
-use Rattle.model.specs.Playing.{Action, idle, fetch, replace, Schedule, State, start, noneResident, isResident, load, act, actAll, playRound, play, fetched, discarded, total}
+use Rattle.model.specs.Playing.{Action, idle, fetch, replace, Schedule, State, noneResident, isResident, load, act, actAll, playRound, play, fetched, discarded, total}
 use Rattle.model.specs.Valid.{Legal, LegalAll, ValidFrom}
 use Rattle.model.proofs.Counting.{count-same, count-insert, count-zero}
 use Rattle.model.proofs.Playing.{round-plays}
@@ -84,6 +85,20 @@ act-elsewhere j marks d (replace x z) h b n =
 -- two marks that differ are of two blocks
 pub apart : (marks : List Bool) (x z : ℕ) → isResident marks x ≡ false → isResident marks z ≡ true → z ≢ x
 apart marks x z e f q = clash f (ap (isResident marks) q ∙ e)
+
+-- the load goes by the marks of the disk's own blocks
+
+-- every block of disk d has the same mark in both
+abbrev pub SameOn : Job → ℕ → List Bool → List Bool → Type 0
+SameOn j d m n = (b : ℕ) → b < blockCount j → diskOf j b ≡ d → isResident m b ≡ isResident n b
+
+pub load-same : (j : Job) (m n : List Bool) (d : ℕ) → SameOn j d m n → load j m d ≡ load j n d
+unfolding load
+load-same j m n d same =
+    count-same _ _ (blockCount j) λ b l.
+    by-test (eqb (diskOf j b) d)
+    (λ y. rw (same b l (eqb-true (diskOf j b) d y)))
+    (λ f. and-false-left _ f ∙ sym (and-false-left _ f))
 
 -- the load after an action
 
@@ -208,12 +223,22 @@ moment-load j s (actions ∷ more) long v d p fits (suc k) i =
     ap (λ (x : State). load j (play j x (soFar k i more) .resident) d) same in
     (omega (arith, ih .0, a, whole, after), omega (arith, ih .1, a))
 
--- From empty buffers: "At each moment the blocks in a disk's buffer number its fetches so far less its discards so far", and at most its slots.
-pub buffers : (j : Job) (schedule : Schedule) → blockCount j ≤ 512 → ValidFrom j (start j) schedule → (d : ℕ) → d < diskCount j → (k i : ℕ)
-    → (load j (play j (start j) (soFar k i schedule) .resident) d + total discarded d (soFar k i schedule) ≡ total fetched d (soFar k i schedule))
-    × (load j (play j (start j) (soFar k i schedule) .resident) d ≤ slotsOf j d)
-unfolding start noneResident
-buffers j schedule few v d p k i =
-    let none : load j noneResident d ≡ 0 = load-none j d in
-    let r = moment-load j (start j) schedule (omega (arith, length-replicate 512 false)) v d p (omega (arith, none)) k i in
-    (omega (arith, r .0, none), r .1)
+-- So it is after k whole rounds.
+pub rounds-load : (j : Job) (s : State) (schedule : Schedule) → blockCount j ≤ length (s .resident) → ValidFrom j s schedule
+    → (d : ℕ) → d < diskCount j → load j (s .resident) d ≤ slotsOf j d → (k : ℕ)
+    → (load j (play j s (take k schedule) .resident) d + total discarded d (take k schedule) ≡ load j (s .resident) d + total fetched d (take k schedule))
+    × (load j (play j s (take k schedule) .resident) d ≤ slotsOf j d)
+unfolding play total ValidFrom playRound
+rounds-load j s schedule long v d p fits zero = (refl, fits)
+rounds-load j s [] long v d p fits (suc k) = (refl, fits)
+rounds-load j s (actions ∷ more) long v d p fits (suc k) =
+    let t = v .0 in
+    let r = v .1 in
+    let same = round-plays j s actions t r in
+    let whole = load-round j (s .resident) long 0 actions (r .legal) d d (omega arith) in
+    let after = ap (λ (m : List Bool). load j m d) (r .played) in
+    let l : length (t .resident) ≡ length (s .resident) = ap length (r .played) ∙ length-actAll (s .resident) actions in
+    let ih = rounds-load j t more (omega arith) (v .2) d p (r .a2 d p) k in
+    let a : load j (play j t (take k more) .resident) d ≡ load j (play j (playRound j s actions) (take k more) .resident) d =
+    ap (λ (x : State). load j (play j x (take k more) .resident) d) same in
+    (omega (arith, ih .0, a, whole, after), omega (arith, ih .1, a))

@@ -23,8 +23,9 @@ use Rattle.model.specs.Sheet.{actionBits, roundBits, roundsBits, sheetBi
 use Rattle.model.specs.Valid.{Ready, ValidFrom, discardsFullFrom, LegalSheet, ValidSheet}
 use Rattle.model.specs.Calls.{jobUpTo, Counts, countsOf, fetchesOn, shortCounts, sparingCounts, Which, isFirst, isSecond, ofTwo, whichFor, Mark, isShort, isSparing, Planned, markFor, chosen, handed, handedCounts, plannedOf, withRooms, plannedFor, planAnswer, returned, partAfter, passOf, checkFor, checkAnswer}
 use Rattle.model.proofs.Choosing.{Lawful, short-lawful, sparing-lawful}
-use Rattle.model.proofs.Rounds.{ready-start, ready-after}
-use Rattle.model.proofs.Plans.{length-each, actionsOf, plan-round, plan-consumes, plan-valid, plan-full, plan-few}
+use Rattle.model.proofs.Carried.{ready-start}
+use Rattle.model.proofs.Rounds.{ready-after}
+use Rattle.model.proofs.Plans.{length-each, getD-each, actionsOf, plan-round, plan-consumes, plan-valid, plan-full, plan-few}
 use Rattle.model.proofs.Charged.{plan-charged, schedule-charged}
 use Rattle.model.proofs.Short.{ahead-self, short-unbeaten}
 use Rattle.model.proofs.Sparing.{sparing-unbeaten}
@@ -61,12 +62,6 @@ valid-passes t stop s j schedule e v =
 
 -- the eight counts
 
-pub getD-each : {A : Type 0} (f : ℕ → A) (i n k : ℕ) (x : A) → k < n → getD (each f i n) k x ≡ f (i + k)
-unfolding each
-getD-each f i zero k x l = absurd (omega arith)
-getD-each f i (suc n) zero x l = ap f (let e : i ≡ i + 0 = omega arith in e)
-getD-each f i (suc n) (suc k) x l = getD-each f (suc i) n k x (omega arith) ∙ ap f (let e : suc i + k ≡ i + suc k = omega arith in e)
-
 pub fetches-on : (j : Job) (schedule : Schedule) (d : ℕ) → d < 8 → fetchesOn (countsOf j schedule) d ≡ fetches schedule d
 unfolding countsOf
 fetches-on j schedule d l = getD-each (fetches schedule) 0 8 d 0 l ∙ ap (fetches schedule) (let e : 0 + d ≡ d = omega arith in e)
@@ -96,7 +91,7 @@ plan-elsewhere rule j d (suc most) s l =
 
 module _ (j : Job) (sound : Sound j) (schedule : Schedule) (v : ValidFrom j (start j) schedule) where
   ready : Ready j (start j)
-  ready = ready-start j (sound .fewBlocks)
+  ready = ready-start j sound
 
   in-rounds : charged j (scheduleOf short j) ≤ charged j schedule
   unfolding charged scheduleOf planOf
@@ -178,18 +173,18 @@ module _ (rule : Rule) (lawful : Lawful rule) (t : List ℕ) (stop : ℕ) (j : J
 
   pub schedule-valid : ValidFrom j (start j) (scheduleOf rule j)
   unfolding scheduleOf planOf start
-  schedule-valid = plan-valid rule lawful j sound (refCount j) (start j) (ready-start j (sound .fewBlocks)) (omega arith)
+  schedule-valid = plan-valid rule lawful j sound (refCount j) (start j) (ready-start j sound) (omega arith)
 
   schedule-full : discardsFullFrom j (start j) (scheduleOf rule j) ≡ true
   unfolding scheduleOf planOf
-  schedule-full = plan-full rule lawful j sound (refCount j) (start j) (ready-start j (sound .fewBlocks))
+  schedule-full = plan-full rule lawful j sound (refCount j) (start j) (ready-start j sound)
 
   -- "neither takes more than N rounds"
   pub schedule-few : length (scheduleOf rule j) ≤ refCount j
   unfolding scheduleOf planOf
   schedule-few =
       let l = length-map (planFrom rule j (refCount j) (start j)) (map action) in
-      let f = plan-few rule lawful j sound (refCount j) (start j) (ready-start j (sound .fewBlocks)) in
+      let f = plan-few rule lawful j sound (refCount j) (start j) (ready-start j sound) in
       omega (arith, l, f)
 
   pub schedule-most : length (scheduleOf rule j) ≤ 2048
@@ -233,7 +228,7 @@ schedule-consumes : (rule : Rule) → Lawful rule → (t : List ℕ) (stop : ℕ
 unfolding scheduleOf planOf
 schedule-consumes rule lawful t stop j e =
     let sound = job-sound t stop j e in
-    consumes-from rule lawful j sound (refCount j) (start j) (ready-start j (sound .fewBlocks))
+    consumes-from rule lawful j sound (refCount j) (start j) (ready-start j sound)
 
 -- The sheet that planning hands back.
 

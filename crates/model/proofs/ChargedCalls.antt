@@ -1,4 +1,4 @@
--- Request L7 over bytes: what the rounds given with a pass are, and a sheet with idle rounds more. Assumes nothing.
+-- Requests L7 and L9 over bytes: what the rounds given with a pass are, when they are 0, and a sheet with idle rounds more. Assumes nothing.
 use mathlib.Core.Path.{_≡_, refl, sym, ap, _∙_, subst}
 use mathlib.Core.Logic.{_↔_}
 use mathlib.Core.Bool.{Bool, true}
@@ -10,14 +10,15 @@ use lib.ListN.{length, take, replicate, length-append, length-replicate}
 use borrow.Author.Tests.{ltb-true, ltb-false}
 use Rattle.bits.specs.Reading.{given}
 use Rattle.bits.proofs.Logic.{by-test, and-true, getD-same}
-use Rattle.model.specs.Job.{Job, diskCount, refCount}
-use Rattle.model.specs.Playing.{Action, idle, Schedule, State, start, act, actAll, playRound, play, load, charged, fetched, total, fetches}
+use Rattle.model.specs.Job.{Job, diskCount, refCount, slotsOf, refAt, carriedOn}
+use Rattle.model.specs.Playing.{Action, idle, Schedule, State, start, isResident, act, actAll, playRound, play, load, charged, fetched, discarded, total, fetches}
 use Rattle.model.specs.Rules.{short, sparing}
 use Rattle.model.specs.Plans.{each, scheduleOf}
 use Rattle.model.specs.Sheet.{sheetOf}
 use Rattle.model.specs.Valid.{Legal, LegalAll, Round, Ready, ValidFrom, discardsFull, discardsFullAll, discardsFullFrom, ValidSheet}
 use Rattle.model.specs.Calls.{jobUpTo, Counts, countsOf, fetchesOn, shortCounts, sparingCounts, checkAnswer}
-use Rattle.model.proofs.Rounds.{ready-start, ready-after, round-of}
+use Rattle.model.proofs.Carried.{start-all, ready-start, buffers-after}
+use Rattle.model.proofs.Rounds.{ready-after, round-of}
 use Rattle.model.proofs.Charged.{schedule-charged, charged-exactly, charged-most, charged-after, total-after}
 use Rattle.model.proofs.Stop.{job-sound}
 use Rattle.model.proofs.Bytes
@@ -111,7 +112,7 @@ idle-end t stop s j schedule n e v few =
     let longer = schedule ++ replicate n (idleRound j) in
     let long = length-append schedule (replicate n (idleRound j)) in
     let more = length-replicate n (idleRound j) in
-    let ready = ready-start j (job-sound t stop j e .fewBlocks) in
+    let ready = ready-start j (job-sound t stop j e) in
     let sheet : ValidSheet j (sheetOf longer) longer = record {
       legal = Bytes.legal-sheet j longer (omega (arith, long, more, few)) (valid-idle j n (start j) schedule ready (v .legal .valid));
       full = full-idle j n (start j) schedule ∙ v .full;
@@ -145,3 +146,24 @@ pub counts-after : (j : Job) (schedule more : Schedule) → ValidFrom j (start j
     × ((d : ℕ) → fetchesOn (countsOf j (schedule ++ more)) d ≡ fetchesOn (countsOf j schedule) d + fetchesOn (countsOf j more) d)
 unfolding countsOf charged
 counts-after j schedule more v = (charged-after j (start j) schedule more v, fetches-added j schedule more)
+
+-- Request L9: "0 where nothing had to be fetched", which is so exactly if every reference is to a block that was carried in.
+pub nothing-fetched : (t : List ℕ) (stop : ℕ) (s : List ℕ) (j : Job) (c : Counts) → jobUpTo t stop ≡ given j → checkAnswer t stop s ≡ given c
+    → (c .rounds ≡ 0) ↔ ((i : ℕ) → i < refCount j → isResident (start j .resident) (refAt j i) ≡ true)
+unfolding play
+nothing-fetched t stop s j c e pass =
+    let p = Bytes.passes-exactly t stop s c .0 pass in
+    let is = p .2 in
+    let same : p .0 ≡ j = cc in
+    let valid = subst (λ (k : Job). ValidSheet k s (p .1)) same (p .3) in
+    let none = charged-given t stop s j (p .1) c e valid pass .1 0 in
+    let all = start-all j in (
+      λ z. all .0 (none .1 (omega (arith, z))),
+      λ h. (let few = none .0 (all .1 h) in omega (arith, few)),
+    )
+
+-- "A buffer's content is now what was carried in, plus fetches, less discards."
+pub buffers-hold : (t : List ℕ) (stop : ℕ) (s : List ℕ) (j : Job) (schedule : Schedule) → jobUpTo t stop ≡ given j → ValidSheet j s schedule → (d : ℕ) → d < diskCount j → (k : ℕ)
+    → (load j (play j (start j) (take k schedule) .resident) d + total discarded d (take k schedule) ≡ length (carriedOn j d) + total fetched d (take k schedule))
+    × (load j (play j (start j) (take k schedule) .resident) d ≤ slotsOf j d)
+buffers-hold t stop s j schedule e v = buffers-after j (job-sound t stop j e) schedule (v .legal .valid)

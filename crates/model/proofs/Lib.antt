@@ -4,6 +4,8 @@ pub mod Stop
 pub mod Counting
 pub mod Playing
 pub mod Buffers
+pub mod Carried
+pub mod CarriedFields
 pub mod Sheets
 pub mod Check
 pub mod Numbers

@@ -13,7 +13,7 @@ use borrow.Author.Tests.{eqb-true, leb-true}
 use Rattle.bits.proofs.Logic.{by-test, clash, and-left, and-right}
 use Rattle.bits.proofs.Reading.{refused-given}
 use Rattle.model.specs.Job.{Job}
-use Rattle.model.specs.Ticket.{slotsField, diskField, refField, ticketReader, ticketOf}
+use Rattle.model.specs.Ticket.{slotsField, diskField, refField, carriedBlocks, carriedField, carriedFields, ticketReader, ticketOf}
 use Rattle.model.specs.Playing.{State, Schedule, start}
 use Rattle.model.specs.Rules.{short, sparing}
 use Rattle.model.specs.Plans.{each, scheduleOf}
@@ -98,13 +98,26 @@ of-ref : (blocks : ℕ) → Numbered ticketNumbers (refField blocks)
 unfolding refField among each
 of-ref blocks = then (of-field 1 refl 9) λ r. next (of-refuse 7 refl _) (of-give _)
 
+of-carried-blocks : (disks : List ℕ) (d k least : ℕ) → Numbered ticketNumbers (carriedBlocks disks d k least)
+unfolding carriedBlocks among each
+of-carried-blocks disks d zero least = of-give _
+of-carried-blocks disks d (suc k) least =
+    then (of-field 1 refl 9) λ b. next (of-refuse 26 refl _) (then (of-carried-blocks disks d k (suc b)) λ more. of-give _)
+
+of-carried : (disks : List ℕ) (d : ℕ) (slots : List ℕ) → Numbered ticketNumbers (carriedFields disks d slots)
+unfolding carriedFields carriedField among each
+of-carried disks d [] = of-give _
+of-carried disks d (s ∷ others) =
+    then (then (of-field 1 refl 7) λ k. next (of-refuse 25 refl _) (of-carried-blocks disks d k 0)) λ blocks.
+    then (of-carried disks (suc d) others) λ more. of-give _
+
 of-ticket : Numbered ticketNumbers ticketReader
 unfolding ticketReader among each
 of-ticket =
     then (of-field 1 refl 4) λ d. next (of-refuse 2 refl _) (then (of-many d of-slots) λ slots.
     then (of-field 1 refl 10) λ b. next (of-refuse 4 refl _) (then (of-many b (of-disk d)) λ disks.
     then (of-field 1 refl 12) λ n. next (of-refuse 6 refl _) (then (of-many n (of-ref b)) λ refs.
-    next (of-closing 8 refl) (of-give _))))
+    then (of-carried disks 0 slots) λ carried. next (of-closing 8 refl) (of-give _))))
 
 pub ticket-number : (t : List ℕ) (n : ℕ) → ticketOf t ≡ refused n → among n ticketNumbers ≡ true
 unfolding ticketOf
@@ -232,21 +245,21 @@ page-number t k a b c n e =
     ⊎-elim (λ h. among-left n planRefusals (19 ∷ []) (plan-number t k a b n h)) (λ h. rw (h .0)) (page-refusals t k a b c n .0 e)
 
 -- so no number of a refused call is 0, and each is small
-pub ticket-within : (t : List ℕ) (n : ℕ) → ticketOf t ≡ refused n → (1 ≤ n) × (n ≤ 8)
+pub ticket-within : (t : List ℕ) (n : ℕ) → ticketOf t ≡ refused n → (1 ≤ n) × (n ≤ 26)
 unfolding withinAll each
-ticket-within t n e = among-within 1 8 n ticketNumbers refl (ticket-number t n e)
+ticket-within t n e = among-within 1 26 n ticketNumbers refl (ticket-number t n e)
 
-pub check-within : (t : List ℕ) (k : ℕ) (s : List ℕ) (n : ℕ) → checkAnswer t k s ≡ refused n → (1 ≤ n) × (n ≤ 21)
+pub check-within : (t : List ℕ) (k : ℕ) (s : List ℕ) (n : ℕ) → checkAnswer t k s ≡ refused n → (1 ≤ n) × (n ≤ 26)
 unfolding withinAll each
-check-within t k s n e = among-within 1 21 n checkRefusals refl (check-number t k s n e)
+check-within t k s n e = among-within 1 26 n checkRefusals refl (check-number t k s n e)
 
-pub plan-within : (t : List ℕ) (k a b n : ℕ) → planAnswer t k a b ≡ refused n → (1 ≤ n) × (n ≤ 21)
+pub plan-within : (t : List ℕ) (k a b n : ℕ) → planAnswer t k a b ≡ refused n → (1 ≤ n) × (n ≤ 26)
 unfolding withinAll each
-plan-within t k a b n e = among-within 1 21 n planRefusals refl (plan-number t k a b n e)
+plan-within t k a b n e = among-within 1 26 n planRefusals refl (plan-number t k a b n e)
 
-pub page-within : (t : List ℕ) (k a b c n : ℕ) → pageAnswer t k a b c ≡ refused n → (1 ≤ n) × (n ≤ 21)
+pub page-within : (t : List ℕ) (k a b c n : ℕ) → pageAnswer t k a b c ≡ refused n → (1 ≤ n) × (n ≤ 26)
 unfolding withinAll each
-page-within t k a b c n e = among-within 1 21 n pageRefusals refl (page-number t k a b c n e)
+page-within t k a b c n e = among-within 1 26 n pageRefusals refl (page-number t k a b c n e)
 
 -- and a call is refused where its number is not 0
 pub refused-by : {A : Type 0} (a : Answer A) (number : ℕ) → number ≡ numberOf a → (number ≡ 0 → ⊥) → a ≡ refused number

@@ -18,9 +18,8 @@ use Rattle.model.specs.Plans.{each, choices, planFrom, planOf, scheduleO
 use Rattle.model.specs.Text.{text, decimal, rightIn}
 use Rattle.model.specs.Page.{letter, blockText, fetchedBlock, discardedBlock, lineOf, roundLines, linesFrom, legend, ended, pageOf, reason, reasonsOf}
 use Rattle.model.proofs.Choosing.{nothing, into, sooner, waiting, over, RuleView, Lawful}
-use Rattle.model.proofs.Rounds.{ready-start}
-use Rattle.model.proofs.Plans.{length-each, plan-few}
-use Rattle.model.proofs.Bytes.{getD-each}
+use Rattle.model.proofs.Carried.{ready-start}
+use Rattle.model.proofs.Plans.{length-each, getD-each, plan-few}
 use Rattle.model.proofs.Text.{decimal-one, decimal-few, right-length}
 
 -- Choices whose blocks have at most three digits, and rounds of them, with one for each disk.
@@ -321,7 +320,7 @@ module _ (rule : Rule) (lawful : Lawful rule) (j : Job) (sound : Sound j) where
   plan-most : length (planOf rule j) ≤ 2048
   unfolding planOf
   plan-most =
-      let f = plan-few rule lawful j sound (refCount j) (start j) (ready-start j (sound .fewBlocks)) in
+      let f = plan-few rule lawful j sound (refCount j) (start j) (ready-start j sound) in
       let n = sound .fewRefs in
       omega (arith, f, n)
 

@@ -27,6 +27,12 @@ unfolding each
 length-each f i zero = refl
 length-each f i (suc k) = ap suc (length-each f (suc i) k)
 
+pub getD-each : {A : Type 0} (f : ℕ → A) (i n k : ℕ) (x : A) → k < n → getD (each f i n) k x ≡ f (i + k)
+unfolding each
+getD-each f i zero k x l = absurd (omega arith)
+getD-each f i (suc n) zero x l = ap f (let e : i ≡ i + 0 = omega arith in e)
+getD-each f i (suc n) (suc k) x l = getD-each f (suc i) n k x (omega arith) ∙ ap f (let e : suc i + k ≡ i + suc k = omega arith in e)
+
 -- one more
 pub each-more : {A : Type 0} (f : ℕ → A) (i k : ℕ) → each f i (suc k) ≡ each f i k ++ (f (i + k) ∷ [])
 unfolding each

@@ -8,7 +8,7 @@
 -- nothing.
 use mathlib.Core.Path.{_≡_}
 use mathlib.Core.Logic.{_↔_, _⊎_}
-use mathlib.Core.Bool.{true, cond}
+use mathlib.Core.Bool.{true, false, cond}
 use mathlib.Core.List.{List, [], _∷_, _++_}
 use mathlib.Core.Option.{none, some}
 use Prim.Native.Nat.{ℕ, suc, _+_, _*_, _≤_, _<_, _^_}
@@ -16,9 +16,9 @@ use lib.Dec.{ltb}
 use lib.ListN.{length, getD, take, drop, replicate}
 use Rattle.bits.specs.Bits.{pack}
 use Rattle.bits.specs.Reading.{given, refused}
-use Rattle.model.specs.Job.{Job, Sound, diskCount, blockCount, refCount, slotsOf, diskOf, refAt, upTo}
+use Rattle.model.specs.Job.{Job, Sound, diskCount, blockCount, refCount, slotsOf, diskOf, refAt, carriedOn, carriedAt, upTo}
 use Rattle.model.specs.Ticket.{ticketBits, ticketOf}
-use Rattle.model.specs.Playing.{idle, replace, Schedule, start, play, fetches}
+use Rattle.model.specs.Playing.{idle, replace, Schedule, noneResident, start, isResident, load, play, fetched, discarded, total, fetches}
 use Rattle.model.specs.Rules.{distance, overMinBlock, short, sparing}
 use Rattle.model.specs.Plans.{scheduleOf, stateAfter}
 use Rattle.model.specs.Text.{text}
@@ -27,6 +27,7 @@ use Rattle.model.specs.Sheet.{sheetOf}
 use Rattle.model.specs.Valid.{ValidTicket, ValidFrom, discardsFullFrom, LegalSheet, ValidSheet}
 use Rattle.model.specs.Calls.{jobUpTo, referencesOf, Counts, countsOf, fetchesOn, AllZero, shortCounts, sparingCounts, SparingWithin, isSecond, ofTwo, isSparing, chosen, Planned, handed, handedCounts, plannedFor, planAnswer, shortAfter, sparingAfter, returned, partAfter, PlannedPage, planHanded, pageFor, pageAnswer, planGiven, pageLength, pageAfter, checkFor, checkAnswer, countsGiven, ChosenSheet, chosenOf, chosenFrom, chooseAnswer, returnedChoice, sheetAfter, checkRefusals, planRefusals, pageRefusals, among, countsNumbers, planningNumbers, choiceNumbers, countsWritten}
 use Rattle.model.proofs.Choosing.{short-lawful, sparing-lawful}
+use Rattle.model.proofs.Carried
 use Rattle.model.proofs.Ticket
 use Rattle.model.proofs.Stop
 use Rattle.model.proofs.Bytes
@@ -49,8 +50,8 @@ accepted-exactly t j = (Ticket.accepted-valid t j, Ticket.valid-accepted t j)
 pub sound-accepted : (j : Job) → Sound j → ticketOf (pack (ticketBits j)) ≡ given j
 sound-accepted = Ticket.sound-accepted
 
--- A refused check gives one of 1 to 16, 20 and 21, a refused planning call one of 1 to 8, 17, 18 and 21; and each of these numbers is given for some
--- bytes and stop.
+-- A refused check gives one of 1 to 16, 20, 21, 25 and 26, a refused planning call one of 1 to 8, 17, 18, 21, 25 and 26; and each of these numbers is
+-- given for some bytes and stop.
 pub check-numbers : (n : ℕ) → (among n checkRefusals ≡ true) ↔ ((t : List ℕ) × (stop : ℕ) × (s : List ℕ) × (checkAnswer t stop s ≡ refused n))
 check-numbers = Refusals.check-numbers
 
@@ -127,12 +128,12 @@ plan-given = Bytes.plan-given
 pub part-handed : (t : List ℕ) (stop : ℕ) (lent₁ lent₂ : List ℕ) (p : Planned) → planAnswer t stop (length lent₁) (length lent₂) ≡ given p → partAfter (given p) lent₁ lent₂ ≡ handed p
 part-handed = Bytes.part-handed
 
--- 4. "The longest ticket has 2,507 bytes, the longest sheet 40,962": no accepted ticket and no sheet that passes is longer, and a ticket of that
+-- 4. "The longest ticket has 2,507 bytes, the longest sheet 40,962" (document 01): with the blocks carried in (L9) the longest has 3,090 bytes. No accepted ticket and no sheet that passes is longer, and a ticket of that
 -- length is accepted. A sheet of 2,048 rounds of eight actions that each discard a block has 40,962 bytes.
-pub ticket-length : (t : List ℕ) (j : Job) → ticketOf t ≡ given j → length t ≤ 2507
+pub ticket-length : (t : List ℕ) (j : Job) → ticketOf t ≡ given j → length t ≤ 3090
 ticket-length = Longest.ticket-length
 
-pub ticket-longest : (t : List ℕ) × (j : Job) × (ticketOf t ≡ given j) × (length t ≡ 2507)
+pub ticket-longest : (t : List ℕ) × (j : Job) × (ticketOf t ≡ given j) × (length t ≡ 3090)
 ticket-longest = Longest.ticket-longest
 
 pub sheet-length : (t : List ℕ) (stop : ℕ) (s : List ℕ) (c : Counts) → checkAnswer t stop s ≡ given c → length s ≤ 40962
@@ -157,7 +158,7 @@ pub choose-refusals : (t : List ℕ) (stop : ℕ) (first second : List ℕ) (n :
     ↔ ((checkAnswer t stop first ≡ refused n) ⊎ ((a : Counts) × (checkAnswer t stop first ≡ given a) × (checkAnswer t stop second ≡ refused n)))
 choose-refusals = TwoSheets.choose-refusals
 
--- A refused choice gives one of 1 to 16, 20 and 21, and each of these is given for some bytes; it hands back no sheet and changes no lent byte.
+-- A refused choice gives one of 1 to 16, 20, 21, 25 and 26, and each of these is given for some bytes; it hands back no sheet and changes no lent byte.
 pub choose-numbers : (n : ℕ) → (among n checkRefusals ≡ true) ↔ ((t : List ℕ) × (stop : ℕ) × (first : List ℕ) × (second : List ℕ) × (chooseAnswer t stop first second ≡ refused n))
 choose-numbers = Refusals.choose-numbers
 
@@ -220,7 +221,7 @@ pub page-refusals : (t : List ℕ) (stop room₁ room₂ room₃ n : ℕ) → (p
     ⊎ ((n ≡ 19) × (j : Job) × (p : Planned) × (jobUpTo t stop ≡ given j) × (planAnswer t stop room₁ room₂ ≡ given p) × (room₃ < length (pageOf (planHanded (p .mark) j)))))
 page-refusals = PageCall.page-refusals
 
--- A refused call with a page gives one of 1 to 8, 17, 18, 19 and 21, and each of these is given for some bytes, stop and rooms.
+-- A refused call with a page gives one of 1 to 8, 17, 18, 19, 21, 25 and 26, and each of these is given for some bytes, stop and rooms.
 pub page-numbers : (n : ℕ) → (among n pageRefusals ≡ true) ↔ ((t : List ℕ) × (stop : ℕ) × (room₁ : ℕ) × (room₂ : ℕ) × (room₃ : ℕ) × (pageAnswer t stop room₁ room₂ room₃ ≡ refused n))
 page-numbers = Refusals.page-numbers
 
@@ -318,12 +319,13 @@ pub stop-above : (t : List ℕ) (stop : ℕ)
     × ((first second : List ℕ) → (chooseAnswer t stop first second ≡ refused 21) ↔ Above))
 stop-above t stop = (StopCalls.plan-above t stop, StopCalls.page-above t stop, StopCalls.check-above t stop, StopCalls.choose-above t stop)
 
--- "the number of references that count": the job up to the stop has so many references, those of the job in order, and its disks, slots and blocks.
+-- "the number of references that count": the job up to the stop has so many references, those of the job in order, and its disks, slots, blocks and
+-- carried blocks.
 pub stop-references : (stop : ℕ) (j : Job) → stop ≤ refCount j → (refCount (upTo stop j) ≡ stop) × ((i : ℕ) → i < stop → refAt (upTo stop j) i ≡ refAt j i)
 stop-references stop j few = (Stop.stop-count stop j few, Stop.stop-ref stop j)
 
 pub stop-same : (stop : ℕ) (j : Job) → (diskCount (upTo stop j) ≡ diskCount j) × ((d : ℕ) → slotsOf (upTo stop j) d ≡ slotsOf j d)
-    × (blockCount (upTo stop j) ≡ blockCount j) × ((b : ℕ) → diskOf (upTo stop j) b ≡ diskOf j b)
+    × (blockCount (upTo stop j) ≡ blockCount j) × ((b : ℕ) → diskOf (upTo stop j) b ≡ diskOf j b) × ((d : ℕ) → carriedOn (upTo stop j) d ≡ carriedOn j d)
 stop-same = Stop.stop-same
 
 -- "none at or past it is consumed", whatever is played; and a sheet that passes, so each plan's too, consumes all that are before it.
@@ -391,3 +393,33 @@ bound-of-any = Waiting.bound-of-any
 -- crates/tight/proofs/Promises.antt.
 pub one-disk : (t : List ℕ) (stop : ℕ) (j : Job) → jobUpTo t stop ≡ given j → diskCount j ≡ 1 → sparingCounts j .rounds ≡ shortCounts j .rounds
 one-disk = Waiting.one-disk
+
+-- 11. Request L9, "Blocks carried in from the last job." All that is said above of plans, sheets, choices and pages is of what is played from the
+-- state before round 1 (`start`, specs/Playing.antt): "Every sheet for a ticket starts from the same carried blocks, and fewest rounds, fewest fetches
+-- and L8 are meant from there." In that state a block is in its disk's buffer exactly if the ticket has it among the blocks carried in there,
+pub carried-in : (t : List ℕ) (stop : ℕ) (j : Job) → jobUpTo t stop ≡ given j → (d b : ℕ) → d < diskCount j → b < blockCount j → diskOf j b ≡ d
+    → (isResident (start j .resident) b ≡ true) ↔ ((i : ℕ) × (i < length (carriedOn j d)) × (carriedAt j d i ≡ b))
+carried-in = Stop.carried-in
+
+-- and "Before round 1 the suite reads as far as these allow": each reference before the next read is to such a block, and the next read is not. No
+-- round is played yet.
+pub read-before : (j : Job) → (start j .next ≤ refCount j) × ((i : ℕ) → i < start j .next → isResident (start j .resident) (refAt j i) ≡ true)
+    × (start j .next < refCount j → isResident (start j .resident) (refAt j (start j .next)) ≡ false)
+    × (start j .round ≡ 0)
+read-before j = (Carried.start-within j, Carried.start-read j, Carried.start-stops j, Carried.start-round j)
+
+-- "A buffer's content is now what was carried in, plus fetches, less discards": so many blocks does it hold after k rounds of a sheet that passes, and
+-- never more than its slots. (`buffers`, proofs/Carried.antt, has it at each moment within a round too.)
+pub buffers-hold : (t : List ℕ) (stop : ℕ) (s : List ℕ) (j : Job) (schedule : Schedule) → jobUpTo t stop ≡ given j → ValidSheet j s schedule → (d : ℕ) → d < diskCount j → (k : ℕ)
+    → (load j (play j (start j) (take k schedule) .resident) d + total discarded d (take k schedule) ≡ length (carriedOn j d) + total fetched d (take k schedule))
+    × (load j (play j (start j) (take k schedule) .resident) d ≤ slotsOf j d)
+buffers-hold = ChargedCalls.buffers-hold
+
+-- The rounds given with a pass are 0 exactly if nothing had to be fetched: every reference is to a block that was carried in.
+pub nothing-fetched : (t : List ℕ) (stop : ℕ) (s : List ℕ) (j : Job) (c : Counts) → jobUpTo t stop ≡ given j → checkAnswer t stop s ≡ given c
+    → (c .rounds ≡ 0) ↔ ((i : ℕ) → i < refCount j → isResident (start j .resident) (refAt j i) ≡ true)
+nothing-fetched = ChargedCalls.nothing-fetched
+
+-- "Document 01's jobs have every count 0": their buffers are empty before round 1, and nothing is read.
+pub carried-none : (j : Job) → ((d : ℕ) → length (carriedOn j d) ≡ 0) → start j ≡ record { resident = noneResident; next = 0; round = 0 }
+carried-none = Carried.start-empty

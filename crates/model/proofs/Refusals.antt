@@ -10,7 +10,7 @@ use borrow.Author.Tests.{eqb-true}
 use Rattle.bits.specs.Reading.{refused, bind, _>>=_, _>>_, give, field, refuseIf, many, isClosed, closing, answer, readAll}
 use Rattle.bits.proofs.Logic.{by-test, clash, getD-same}
 use Rattle.model.specs.Job.{upTo}
-use Rattle.model.specs.Ticket.{slotsField, diskField, refField, ticketReader, ticketOf}
+use Rattle.model.specs.Ticket.{slotsField, diskField, refField, carriedBlocks, carriedField, carriedFields, ticketReader, ticketOf}
 use Rattle.model.specs.Playing.{noneResident, start, load, play}
 use Rattle.model.specs.Plans.{each}
 use Rattle.model.specs.Sheet.{discardReader, fetchReader, actionReader, roundReader, roundsReader, sheetReader, scheduleRead}
@@ -50,7 +50,7 @@ abbrev pub PageRefused : ℕ → Type 0
 PageRefused n = (t : List ℕ) × (stop : ℕ) × (room₁ : ℕ) × (room₂ : ℕ) × (room₃ : ℕ) × (pageAnswer t stop room₁ room₂ room₃ ≡ refused n)
 
 checks : All CheckRefused checkRefusals
-unfolding each hex checkAnswer _>>=_ _>>_ bind give field refuseIf many isClosed closing answer readAll stopAt upTo jobUpTo slotsField diskField refField ticketReader ticketOf discardReader fetchReader actionReader roundReader roundsReader sheetReader scheduleRead play load noneResident start
+unfolding each hex checkAnswer _>>=_ _>>_ bind give field refuseIf many isClosed closing answer readAll stopAt upTo jobUpTo slotsField diskField refField carriedBlocks carriedField carriedFields ticketReader ticketOf discardReader fetchReader actionReader roundReader roundsReader sheetReader scheduleRead play load noneResident start
 checks =
     ([], 0, [], refl) ⊳
     (hex 1 0x00, 0, [], refl) ⊳
@@ -59,21 +59,23 @@ checks =
     (hex 3 0x102009, 0, [], refl) ⊳
     (hex 5 0x1020088010, 0, [], refl) ⊳
     (hex 6 0x102008002008, 0, [], refl) ⊳
-    (hex 6 0x102008001001, 0, [], refl) ⊳
-    (hex 6 0x102008001000, 2, [], refl) ⊳
-    (hex 6 0x102008001000, 1, [], refl) ⊳
-    (hex 6 0x102008001000, 1, hex 2 0x8010, refl) ⊳
-    (hex 6 0x102008001000, 1, hex 3 0x001816, refl) ⊳
-    (hex 6 0x102008001000, 1, hex 5 0x0028010000, refl) ⊳
-    (hex 9 0x102010000600008000, 3, hex 5 0x0038010080, refl) ⊳
-    (hex 9 0x102010000600008000, 3, hex 6 0x00280100c020, refl) ⊳
-    (hex 6 0x102008001000, 1, hex 2 0x0000, refl) ⊳
-    (hex 6 0x102008001000, 1, hex 3 0x001801, refl) ⊳
-    (hex 6 0x102008001000, 1, hex 4 0x00180200, refl) ⊳
+    (hex 7 0x10200800100001, 0, [], refl) ⊳
+    (hex 7 0x10200800100020, 0, [], refl) ⊳
+    (hex 8 0x1020080010001008, 0, [], refl) ⊳
+    (hex 7 0x10200800100000, 2, [], refl) ⊳
+    (hex 7 0x10200800100000, 1, [], refl) ⊳
+    (hex 7 0x10200800100000, 1, hex 2 0x8010, refl) ⊳
+    (hex 7 0x10200800100000, 1, hex 3 0x001816, refl) ⊳
+    (hex 7 0x10200800100000, 1, hex 5 0x0028010000, refl) ⊳
+    (hex 10 0x10201000060000800000, 3, hex 5 0x0038010080, refl) ⊳
+    (hex 10 0x10201000060000800000, 3, hex 6 0x00280100c020, refl) ⊳
+    (hex 7 0x10200800100000, 1, hex 2 0x0000, refl) ⊳
+    (hex 7 0x10200800100000, 1, hex 3 0x001801, refl) ⊳
+    (hex 7 0x10200800100000, 1, hex 4 0x00180200, refl) ⊳
     end
 
 plans : All PlanRefused planRefusals
-unfolding each hex planAnswer _>>=_ _>>_ bind give field refuseIf many isClosed closing answer readAll stopAt upTo jobUpTo slotsField diskField refField ticketReader ticketOf load noneResident
+unfolding each hex planAnswer _>>=_ _>>_ bind give field refuseIf many isClosed closing answer readAll stopAt upTo jobUpTo slotsField diskField refField carriedBlocks carriedField carriedFields ticketReader ticketOf load noneResident
 plans =
     ([], 0, 0, 0, refl) ⊳
     (hex 1 0x00, 0, 0, 0, refl) ⊳
@@ -82,18 +84,20 @@ plans =
     (hex 3 0x102009, 0, 0, 0, refl) ⊳
     (hex 5 0x1020088010, 0, 0, 0, refl) ⊳
     (hex 6 0x102008002008, 0, 0, 0, refl) ⊳
-    (hex 6 0x102008001001, 0, 0, 0, refl) ⊳
-    (hex 6 0x102008001000, 2, 0, 0, refl) ⊳
-    (hex 6 0x102008001000, 1, 2, 2, refl) ⊳
-    (hex 6 0x102008001000, 1, 3, 2, refl) ⊳
+    (hex 7 0x10200800100001, 0, 0, 0, refl) ⊳
+    (hex 7 0x10200800100020, 0, 0, 0, refl) ⊳
+    (hex 8 0x1020080010001008, 0, 0, 0, refl) ⊳
+    (hex 7 0x10200800100000, 2, 0, 0, refl) ⊳
+    (hex 7 0x10200800100000, 1, 2, 2, refl) ⊳
+    (hex 7 0x10200800100000, 1, 3, 2, refl) ⊳
     end
 
 -- where planning is refused, whatever the page's room; and A's page of 102 bytes in 101
 pages : All PageRefused pageRefusals
-unfolding hex pageAnswer _>>=_ _>>_ bind give field refuseIf many isClosed closing answer readAll stopAt upTo jobUpTo slotsField diskField refField ticketReader ticketOf load noneResident
+unfolding hex pageAnswer _>>=_ _>>_ bind give field refuseIf many isClosed closing answer readAll stopAt upTo jobUpTo slotsField diskField refField carriedBlocks carriedField carriedFields ticketReader ticketOf load noneResident
 pages =
     all-then (λ n w. (w .0, w .1, w .2, w .3, 0, page-refusals (w .0) (w .1) (w .2) (w .3) 0 n .1 (inl (w .4)))) plans
-    ((hex 6 0x102008001000, 1, 3, 3, 101, refl) ⊳ end)
+    ((hex 7 0x10200800100000, 1, 3, 3, 101, refl) ⊳ end)
 
 -- both sheets of a choice may be the sheet for which the check is refused
 pub choose-numbers : (n : ℕ) → (among n checkRefusals ≡ true) ↔ ((t : List ℕ) × (stop : ℕ) × (first : List ℕ) × (second : List ℕ) × (chooseAnswer t stop first second ≡ refused n))

@@ -6,25 +6,17 @@ use mathlib.Core.List.{List, [], _∷_}
 use Prim.Native.Nat.{ℕ, zero, suc, _+_, _≤_, _<_}
 use native.Mathlib.Omega.{arith}
 use lib.Dec.{eqb, ltb, leb}
-use lib.ListN.{length, getD, set, length-set, length-replicate}
+use lib.ListN.{length, getD, set, length-set}
 use borrow.Author.Tests.{eqb-true, eqb-false, ltb-true, ltb-false, leb-true, leb-false}
 use Rattle.bits.proofs.Logic.{by-test, clash}
 use Rattle.model.specs.Job.{Job, diskCount, blockCount, slotsOf, diskOf}
-use Rattle.model.specs.Playing.{Action, idle, fetch, replace, State, start, noneResident, isResident, load, act, actAll, playRound, fetched}
+use Rattle.model.specs.Playing.{Action, idle, fetch, replace, State, isResident, load, act, actAll, playRound, fetched}
 use Rattle.model.specs.Rules.{distance}
 use Rattle.model.specs.Valid.{LegalAll, Round, Ready}
-use Rattle.model.proofs.Buffers.{length-act, length-actAll, mark-set, mark-kept, act-elsewhere, load-none}
+use Rattle.model.proofs.Buffers.{length-act, length-actAll, mark-set, mark-kept, act-elsewhere}
 use Rattle.model.proofs.Playing.{readOn-within, readOn-held, readOn-stops}
 use Rattle.model.proofs.Distances.{distance-from, distance-hit}
 use Rattle.model.proofs.Missing.{miss, miss-act, miss-same, miss-shift}
-
-pub ready-start : (j : Job) → blockCount j ≤ 512 → Ready j (start j)
-unfolding start noneResident
-ready-start j few = record {
-  long = omega (arith, length-replicate 512 false);
-  within = omega arith;
-  loads = λ d l. (let e = load-none j d in omega (arith, e));
-}
 
 pub ready-after : (j : Job) (s : State) (actions : List Action) (t : State) → Ready j s → Round j s actions t → Ready j t
 ready-after j s actions t h r =

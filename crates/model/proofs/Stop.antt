@@ -1,25 +1,26 @@
 -- Request L5: a ticket's job up to a stop, and which tickets have one. Assumes nothing.
 use mathlib.Core.Path.{_≡_, refl, sym, ap, _∙_, subst}
 use mathlib.Core.Logic.{_↔_, _⊎_, inl, inr, ⊎-elim}
-use mathlib.Core.Bool.{cond}
+use mathlib.Core.Bool.{true, cond}
 use mathlib.Core.List.{List}
 use Prim.Native.Nat.{ℕ, _≤_, _<_}
 use native.Mathlib.Omega.{arith}
 use lib.Dec.{ltb}
-use lib.ListN.{length-take}
+use lib.ListN.{length, length-take}
 use lib.Seq.{getD-take, take-length}
 use borrow.Author.Tests.{ltb-true, ltb-false}
 use Rattle.bits.specs.Bits.{pack}
 use Rattle.bits.specs.Reading.{Answer, given, refused}
 use Rattle.bits.proofs.Logic.{by-test}
 use Rattle.bits.proofs.Reading.{refused-given}
-use Rattle.model.specs.Job.{Job, Sound, diskCount, blockCount, refCount, slotsOf, diskOf, refAt, upTo}
+use Rattle.model.specs.Job.{Job, Sound, diskCount, blockCount, refCount, slotsOf, diskOf, refAt, carriedOn, carriedAt, upTo}
 use Rattle.model.specs.Ticket.{ticketBits, ticketOf}
-use Rattle.model.specs.Playing.{Schedule, start, play}
+use Rattle.model.specs.Playing.{Schedule, start, isResident, play}
 use Rattle.model.specs.Rules.{distance}
 use Rattle.model.specs.Calls.{stopAt, jobUpTo, referencesOf}
 use Rattle.model.proofs.Ticket.{ticket-sound, sound-accepted}
 use Rattle.model.proofs.Playing.{play-within}
+use Rattle.model.proofs.Carried.{start-within, start-exactly}
 use Rattle.model.proofs.Distances.{distance-from, distance-hit, distance-least, distance-is}
 
 -- The job up to a stop has the references before it, and everything else of the job.
@@ -43,9 +44,13 @@ module _ (stop : ℕ) (j : Job) where
   stop-ref i l = getD-take stop (j .refs) i 0 l
 
   pub stop-same : (diskCount (upTo stop j) ≡ diskCount j) × ((d : ℕ) → slotsOf (upTo stop j) d ≡ slotsOf j d)
-      × (blockCount (upTo stop j) ≡ blockCount j) × ((b : ℕ) → diskOf (upTo stop j) b ≡ diskOf j b)
+      × (blockCount (upTo stop j) ≡ blockCount j) × ((b : ℕ) → diskOf (upTo stop j) b ≡ diskOf j b) × ((d : ℕ) → carriedOn (upTo stop j) d ≡ carriedOn j d)
   unfolding upTo
-  stop-same = (refl, λ d. refl, refl, λ b. refl)
+  stop-same = (refl, λ d. refl, refl, λ b. refl, λ d. refl)
+
+  carried-lists : length (upTo stop j .carried) ≡ length (j .carried)
+  unfolding upTo
+  carried-lists = refl
 
   pub stop-sound : Sound j → Sound (upTo stop j)
   stop-sound h =
@@ -61,13 +66,18 @@ module _ (stop : ℕ) (j : Job) where
         onDisks = λ b l. rw (same .3 b, same .0) (h .onDisks b (rw (same .2) at l));
         fewRefs = (let few = h .fewRefs in omega (arith, most, few));
         toBlocks = λ i l. (let before = count-before in rw (stop-ref i (omega (arith, before)), same .2) (h .toBlocks i (omega (arith, most))));
+        oneList = carried-lists ∙ h .oneList ∙ sym (same .0);
+        fewCarried = λ d l. rw (same .4 d, same .1 d) (h .fewCarried d (rw (same .0) at l));
+        rising = λ d i l p. rw (same .4 d) (h .rising d i (rw (same .0) at l) (rw (same .4 d) at p));
+        ofBlocks = λ d i l p. rw (same .4 d, same .2) (h .ofBlocks d i (rw (same .0) at l) (rw (same .4 d) at p));
+        onOwnDisk = λ d i l p. rw (same .4 d, same .3 (carriedAt j d i)) (h .onOwnDisk d i (rw (same .0) at l) (rw (same .4 d) at p));
       }
 
   -- "none at or past it is consumed", whatever is played
   pub stop-consumed : (schedule : Schedule) → play (upTo stop j) (start (upTo stop j)) schedule .next ≤ stop
   unfolding start
   stop-consumed schedule =
-      let within = play-within (upTo stop j) (start (upTo stop j)) schedule (omega arith) in
+      let within = play-within (upTo stop j) (start (upTo stop j)) schedule (start-within (upTo stop j)) in
       let before = count-before in
       omega (arith, within, before)
 
@@ -92,7 +102,7 @@ module _ (stop : ℕ) (j : Job) where
 -- A stop equal to N leaves the job as it is.
 pub stop-whole : (j : Job) → upTo (refCount j) j ≡ j
 unfolding upTo
-stop-whole j = λ i. record { slots = j .slots; blockDisks = j .blockDisks; refs = take-length (j .refs) i }
+stop-whole j = λ i. record { slots = j .slots; blockDisks = j .blockDisks; refs = take-length (j .refs) i; carried = j .carried }
 
 -- What a ticket and a stop give.
 
@@ -155,6 +165,11 @@ module _ (t : List ℕ) (stop : ℕ) where
   -- that job is sound
   pub job-sound : (k : Job) → jobUpTo t stop ≡ given k → Sound k
   job-sound k e = let w = stops-exactly k .0 e in subst Sound (w .3) (stop-sound stop (w .0) (ticket-sound t (w .0) (w .1)))
+
+  -- so that what is said of a sound job before round 1 is said of it (L9)
+  pub carried-in : (j : Job) → jobUpTo t stop ≡ given j → (d b : ℕ) → d < diskCount j → b < blockCount j → diskOf j b ≡ d
+      → (isResident (start j .resident) b ≡ true) ↔ ((i : ℕ) × (i < length (carriedOn j d)) × (carriedAt j d i ≡ b))
+  carried-in j e = start-exactly j (job-sound j e)
 
 -- With the stop N it is the ticket's own answer.
 pub whole-job : (t : List ℕ) → jobUpTo t (referencesOf (ticketOf t)) ≡ ticketOf t

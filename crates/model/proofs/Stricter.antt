@@ -7,14 +7,14 @@ use native.Mathlib.Omega.{arith}
 use lib.Dec.{lit<}
 use Rattle.bits.specs.Reading.{given, refused, bind, _>>=_, _>>_, give, field, refuseIf, many, isClosed, closing, answer, readAll}
 use Rattle.model.specs.Job.{Job, upTo}
-use Rattle.model.specs.Ticket.{slotsField, diskField, refField, ticketReader, ticketOf}
+use Rattle.model.specs.Ticket.{slotsField, diskField, refField, carriedBlocks, carriedField, carriedFields, ticketReader, ticketOf}
 use Rattle.model.specs.Playing.{Schedule, noneResident, start, load, playRound, play}
 use Rattle.model.specs.Sheet.{sheetOf}
 use Rattle.model.specs.Valid.{LegalAll, LegalSheet}
 use Rattle.model.specs.Calls.{stopAt, jobUpTo, Counts, countsOf, checkAnswer}
 use Rattle.model.proofs.Answers.{hex, ticketTwo, jobTwo, replacing, beside-empty}
 use Rattle.model.proofs.Stop.{job-sound}
-use Rattle.model.proofs.Rounds.{ready-start}
+use Rattle.model.proofs.Carried.{ready-start}
 use Rattle.model.proofs.Sheets.{RoomAll, Allowed}
 use Rattle.model.proofs.Validity.{allowed-valid}
 use Rattle.model.proofs.Bytes.{passes-valid, legal-answer, legal-sheet}
@@ -27,7 +27,7 @@ pass-is-legal t stop s c e = let v = passes-valid t stop s c e in (v .0, v .1, v
 -- One that does not pass: with two slots, block 1 replaces block 0 beside the empty slot. It is a row of the table in `Answers`.
 
 accepted : jobUpTo ticketTwo 2 ≡ given jobTwo
-unfolding hex jobUpTo stopAt upTo ticketOf ticketReader slotsField diskField refField _>>=_ _>>_ bind give field refuseIf many isClosed closing answer readAll
+unfolding hex jobUpTo stopAt upTo ticketOf ticketReader slotsField diskField refField carriedBlocks carriedField carriedFields _>>=_ _>>_ bind give field refuseIf many isClosed closing answer readAll
 accepted = refl
 
 allowed : Allowed jobTwo (start jobTwo) replacing
@@ -48,7 +48,7 @@ legal : LegalSheet jobTwo (sheetOf replacing) replacing
 unfolding play start noneResident
 legal =
     legal-sheet jobTwo replacing (omega arith)
-    (allowed-valid jobTwo (start jobTwo) replacing (ready-start jobTwo (job-sound ticketTwo 2 jobTwo accepted .fewBlocks)) allowed (omega arith))
+    (allowed-valid jobTwo (start jobTwo) replacing (ready-start jobTwo (job-sound ticketTwo 2 jobTwo accepted)) allowed (omega arith))
 
 written : sheetOf replacing ≡ hex 6 0x00280100c000
 unfolding sheetOf hex

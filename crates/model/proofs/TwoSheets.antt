@@ -76,7 +76,7 @@ choose-fails t stop first second n e = ⊎-elim (λ p. (first, p)) (λ v. (secon
 pub choose-number : (t : List ℕ) (stop : ℕ) (first second : List ℕ) (n : ℕ) → chooseAnswer t stop first second ≡ refused n → among n checkRefusals ≡ true
 choose-number t stop first second n e = let f = choose-fails t stop first second n e in check-number t stop (f .0) n (f .1)
 
-pub choose-within : (t : List ℕ) (stop : ℕ) (first second : List ℕ) (n : ℕ) → chooseAnswer t stop first second ≡ refused n → (1 ≤ n) × (n ≤ 21)
+pub choose-within : (t : List ℕ) (stop : ℕ) (first second : List ℕ) (n : ℕ) → chooseAnswer t stop first second ≡ refused n → (1 ≤ n) × (n ≤ 26)
 choose-within t stop first second n e = let f = choose-fails t stop first second n e in check-within t stop (f .0) n (f .1)
 
 -- The sheet handed back, where both pass.

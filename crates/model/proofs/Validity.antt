@@ -19,7 +19,8 @@ use Rattle.model.specs.Sheet.{sheetBits, sheetReader, scheduleRead}
 use Rattle.model.specs.Valid.{Legal, LegalAll, Ready, ValidFrom, discardsFullFrom, LegalSheet, ValidSheet}
 use Rattle.model.proofs.Buffers.{length-act, load-own, load-elsewhere, load-before}
 use Rattle.model.proofs.Playing.{round-plays}
-use Rattle.model.proofs.Rounds.{ready-start, ready-after, round-of}
+use Rattle.model.proofs.Carried.{ready-start}
+use Rattle.model.proofs.Rounds.{ready-after, round-of}
 use Rattle.model.proofs.Sheets.{Room, RoomAll, Allowed, SheetRead}
 use Rattle.model.proofs.Written.{sheet-written}
 
@@ -100,7 +101,7 @@ pub read-valid : (j : Job) → Sound j → (s : List ℕ) (schedule : Schedule) 
 read-valid j sound s schedule r = record {
   legal = record {
     fewRounds = r .few;
-    valid = allowed-valid j (start j) schedule (ready-start j (sound .fewBlocks)) (r .allowed) (r .finished);
+    valid = allowed-valid j (start j) schedule (ready-start j sound) (r .allowed) (r .finished);
     closingBits = length (r .tail);
     fewClosing = r .short;
     written = r .wrote ∙ ap (λ (l : List ℕ). sheetBits schedule ++ l) (zero-list (r .tail) (r .zeros));
@@ -116,4 +117,4 @@ legal-read j sound s schedule v =
     let finished = valid-finished j (start j) schedule (v .valid) in
     readAll-if (sheetReader j (start j)) s (discardsFullFrom j (start j) schedule) schedule [] 20 (ap (sheetReader j (start j)) (v .written)
     ∙ sheet-written j (sound .fewBlocks) (start j) schedule (v .closingBits) (v .fewRounds) (v .fewClosing)
-    (valid-allowed j (start j) schedule (ready-start j (sound .fewBlocks)) (v .valid)) (omega (arith, finished)))
+    (valid-allowed j (start j) schedule (ready-start j sound) (v .valid)) (omega (arith, finished)))

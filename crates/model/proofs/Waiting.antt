@@ -11,16 +11,17 @@ use lib.Dec.{ltb}
 use lib.ListN.{length, getD, length-map}
 use borrow.Author.Tests.{ltb-true, ltb-false}
 use Rattle.bits.specs.Reading.{given}
-use Rattle.bits.proofs.Logic.{by-test, clash, getD-same}
+use Rattle.bits.proofs.Logic.{by-test, clash}
 use Rattle.model.specs.Job.{Sound, Job, diskCount, refCount, diskOf, refAt}
-use Rattle.model.specs.Playing.{Action, idle, fetch, replace, State, noneResident, start, isResident, act, playRound, charged, fetched, total, fetches}
+use Rattle.model.specs.Playing.{Action, idle, fetch, replace, State, start, isResident, act, playRound, charged, fetched, total, fetches}
 use Rattle.model.specs.Rules.{action, Rule, short, sparing}
 use Rattle.model.specs.Plans.{planFrom, planOf, scheduleOf}
 use Rattle.model.specs.Valid.{Ready}
 use Rattle.model.specs.Sheet.{sheetOf}
 use Rattle.model.specs.Calls.{jobUpTo, Counts, countsOf, shortCounts, sparingCounts, SparingWithin, checkAnswer}
 use Rattle.model.proofs.Choosing.{Lawful, short-lawful, sparing-lawful}
-use Rattle.model.proofs.Rounds.{ready-start, ready-after}
+use Rattle.model.proofs.Carried.{start-stops, ready-start}
+use Rattle.model.proofs.Rounds.{ready-after}
 use Rattle.model.proofs.Plans.{demanded-held, actionsOf, actions-at, plan-round, plan-valid}
 use Rattle.model.proofs.Charged.{plan-charged, total-most}
 use Rattle.model.proofs.Sparing.{sparing-unbeaten}
@@ -65,10 +66,6 @@ enters-fetched marks b (replace x z) out held = refl
 -- The reading stopped at a missing block, or at the end.
 abbrev pub NextMissing : Job → State → Type 0
 NextMissing j s = s .next < refCount j → isResident (s .resident) (refAt j (s .next)) ≡ false
-
-pub missing-start : (j : Job) → NextMissing j (start j)
-unfolding start noneResident
-missing-start j due = getD-same 512 (refAt j 0) false
 
 module _ (rule : Rule) (lawful : Lawful rule) (j : Job) (sound : Sound j) where
   -- Each round of a plan fetches at least the block of the next read,
@@ -118,7 +115,7 @@ unfolding SparingWithin shortCounts sparingCounts countsOf charged scheduleOf pl
 sparing-within j sound =
     let a = plan-charged short j (refCount j) (start j) in
     let b = plan-charged sparing j (refCount j) (start j) in
-    let c = sparing-bounded j sound (refCount j) (refCount j) (start j) (ready-start j (sound .fewBlocks)) (missing-start j) (omega arith) in
+    let c = sparing-bounded j sound (refCount j) (refCount j) (start j) (ready-start j sound) (start-stops j) (omega arith) in
     rw (a, b) (omega (arith, c))
 
 -- Over bytes: of the two plans,

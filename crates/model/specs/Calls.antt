@@ -294,8 +294,9 @@ sheetAfter a first second =
     sheetHanded (r .which) (r .sheetLength) first second
 
 -- The numbers of "Numbers of a refused call": those of a ticket, of a ticket and a stop, of a sheet and of the rooms;
+-- (L9: "Turned away: 25 ..; 26")
 abbrev pub ticketNumbers : List ℕ
-ticketNumbers = each (λ n. n) 1 8
+ticketNumbers = each (λ n. n) 1 8 ++ 25 ∷ 26 ∷ []
 
 -- (L5: "Turned away: 21")
 abbrev pub jobNumbers : List ℕ

@@ -1,5 +1,5 @@
--- Document 01, "Playing a round". A schedule (axioms A1 and A2 of document 000) is a list of rounds, and a round has one action for each disk.
--- Assumes nothing.
+-- Document 01, "Playing a round", and document 02's request L9, the blocks carried in. A schedule (axioms A1 and A2 of document 000) is a list of
+-- rounds, and a round has one action for each disk. Assumes nothing.
 use mathlib.Core.Bool.{Bool, true, false, cond, _&&_}
 use mathlib.Core.List.{List, [], _∷_}
 use Prim.Native.Nat.{ℕ, zero, suc, _+_}
@@ -28,13 +28,9 @@ pub record State : Type 0 where
   pub next : ℕ
   pub round : ℕ
 
--- "buffers are empty at the start": a mark for each block number, and none is set
+-- Empty buffers: a mark for each block number, and none is set.
 unfoldable pub noneResident : List Bool
 noneResident = replicate 512 false
-
--- The state before round 1. It is the same for every job; request L9 will have jobs that say what is in their buffers.
-unfoldable pub start : Job → State
-start j = record { resident = noneResident; next = 0; round = 0 }
 
 abbrev pub isResident : List Bool → ℕ → Bool
 isResident marks b = getD marks b false
@@ -60,6 +56,25 @@ actAll marks (a ∷ more) = actAll (act marks a) more
 unfoldable pub consumed : List Bool → List ℕ → ℕ
 consumed marks [] = 0
 consumed marks (r ∷ due) = let more = suc (consumed marks due) in cond (isResident marks r) more 0
+
+-- L9: "blocks already in its buffer". The marks with those of a disk set too,
+unfoldable pub marked : List Bool → List ℕ → List Bool
+marked marks [] = marks
+marked marks (b ∷ more) = marked (set marks b true) more
+
+-- and with those of each disk, one disk after the other.
+unfoldable pub markedAll : List Bool → List (List ℕ) → List Bool
+unfolding marked
+markedAll marks [] = marks
+markedAll marks (blocks ∷ more) = markedAll (marked marks blocks) more
+
+-- The state before round 1. L9: "Before round 1 the suite reads as far as these allow." With nothing carried in, "buffers are empty at the start" of
+-- document 01, and nothing is read.
+unfoldable pub start : Job → State
+unfolding noneResident markedAll consumed
+start j =
+    let marks = markedAll noneResident (j .carried) in
+    record { resident = marks; next = consumed marks (j .refs); round = 0 }
 
 -- "Playing takes the state of the buffers and gives back the next": one round, its actions and then its reading.
 unfoldable pub playRound : Job → State → List Action → State

@@ -11,10 +11,10 @@ fn buffer() -> [u8; 278613]
     [0; 278613]
 }
 
-// A longer input is cut to 2,508 bytes, one more than the longest ticket, as in `plan`; what is printed is what the whole input gives (`cut-page` of
+// A longer input is cut to 3,091 bytes, one more than the longest ticket, as in `plan`; what is printed is what the whole input gives (`cut-page` of
 // `report`).
 fn main() {
-    let mut ticket = [0u8; 2508];
+    let mut ticket = [0u8; 3091];
     let n = io::read_full(STDIN_FILENO, &mut ticket);
     let mut text = buffer();
     let m = report::page(&ticket[..n], &mut text);

@@ -23,7 +23,7 @@ use Rattle.checking.specs.declared.Checked.{Checked}
 use Rattle.planner.specs.Planner.{Unbeaten, Exact}
 
 -- A call gives something where its number is 0, since no refusal has the number 0. Each number is small.
-module _ {A : Type 0} (a : Answer A) (few : (n : ℕ) → a ≡ refused n → (1 ≤ n) × (n ≤ 21)) (number : ℕ) (e : number ≡ numberOf a) where
+module _ {A : Type 0} (a : Answer A) (few : (n : ℕ) → a ≡ refused n → (1 ≤ n) × (n ≤ 26)) (number : ℕ) (e : number ≡ numberOf a) where
   pub given-by : number ≡ 0 → (v : A) × (a ≡ given v)
   given-by z = go a refl e
     where

@@ -1,7 +1,7 @@
 // The public calls: planning and the part with the sheet to run, planning with a page, the check, the choice between two sheets and the sheet chosen;
 // and planning, check and choice from C. Document 01, its calls; document 02, L1 to L3, and L5: planning, page, check and choice take a stop, "the
 // number of references that count", and any number may be given; 21 if it is above N. L7: rounds are those charged, in all that is returned. L8:
-// planning promises how many rounds the sparing plan takes at most.
+// planning promises how many rounds the sparing plan takes at most. L9: a ticket has the blocks carried in, from which plans and sheets start.
 use checking::Checked;
 use returning::Chosen;
 use returning::Planned;

@@ -1,36 +1,38 @@
--- The desk that `lookup::open` makes is right where buffers are empty, and its sizes are those that `drive` asks; what `run` lends and gives.
+-- What `run` lends and gives: the buffers and the desk before round 1 stand for the state before round 1, and their sizes are those that `drive` asks.
 -- Assumes nothing.
 use mathlib.Core.Path.{_≡_, refl, sym, ap, _∙_, subst}
-use mathlib.Core.List.{List}
-use Prim.Native.Nat.{ℕ, suc, _≤_, _<_}
+use mathlib.Core.List.{List, []}
+use Prim.Native.Nat.{ℕ, suc, _+_, _*_, _≤_, _<_}
 use native.Mathlib.Omega.{arith}
-use lib.ListN.{length, getD, take, replicate, length-take, length-replicate, getD-replicate}
-use lib.Seq.{getD-take}
+use lib.ListN.{length, getD, take, drop, replicate, length-take, length-replicate, getD-replicate}
+use lib.Seq.{getD-take, getD-drop}
 use Rattle.bits.specs.Bits.{bytes, laid, Below}
-use Rattle.bits.proofs.Logic.{clash, getD-same}
-use Rattle.job.specs.Meaning.{jobOf, Fits}
+use Rattle.job.specs.Meaning.{carriedIn, jobOf, Fits}
 use Rattle.job.specs.declared.Job.{Job as Stored}
-use Rattle.model.specs.Job.{Job, Sound, diskCount, blockCount, diskOf, refAt}
-use Rattle.model.specs.Playing.{Schedule, noneResident, start}
-use Rattle.model.specs.Rules.{distance}
+use Rattle.model.specs.Job.{Job, Sound, diskCount, blockCount, diskOf, refAt, carriedOn, carriedAt}
+use Rattle.model.specs.Playing.{Schedule, start}
 use Rattle.model.specs.Plans.{planOf, scheduleOf}
 use Rattle.model.specs.Page.{reasonsOf}
 use Rattle.model.specs.Sheet.{sheetBits}
-use Rattle.model.proofs.Rounds.{ready-start}
-use Rattle.model.proofs.Buffers.{none-resident, load-none}
-use Rattle.model.proofs.Distances.{distance-from, distance-to}
-use Rattle.lookup.specs.Lookup.{firsts, refDisks, chainFrom}
-use Rattle.lookup.specs.Desk.{laters, opened, stepped}
-use Rattle.lookup.proofs.Laws.{firsts-length, firsts-at, refDisks-length, chain-to, chain-hit, chain-head, chain-distance}
-use Rattle.playing.specs.Playing.{emptyBuffers}
-use Rattle.playing.proofs.Laws.{holds-start}
+use Rattle.model.proofs.Plans.{getD-each}
+use Rattle.model.proofs.Carried.{start-within, ready-start}
+use Rattle.model.proofs.Distances.{distance-to}
+use Rattle.lookup.specs.Lookup.{firsts, refDisks}
+use Rattle.lookup.specs.Desk.{looks, ofDisk, opened, stepped}
+use Rattle.lookup.proofs.Laws.{firsts-length, firsts-at, refDisks-length}
+use Rattle.playing.specs.Playing.{startBuffers, Holds}
 use Rattle.playing.specs.declared.Buffers.{Buffers}
+use Rattle.playing.proofs.Started.{holds-start}
 use Rattle.choosing.specs.Choosing.{ruleOf}
 use Rattle.choosing.specs.declared.Rule.{Rule}
 use Rattle.choosing.specs.declared.Rule.the-variants.{Short, Sparing}
-use Rattle.lookup.proofs.Right.{Listed, Pointer, DiskRight, Right, Forward}
+use Rattle.lookup.proofs.Right.{Right, Forward}
+use Rattle.moving.specs.Moving.{Ahead}
 use Rattle.moving.proofs.PointerRight.{forward-ahead, forward-made}
-use Rattle.driving.specs.Driving.{noActs, drivenFrom, reasonsFrom, totalsOf}
+use Rattle.opening.specs.Opening.{carriedDesk}
+use Rattle.opening.proofs.Sizes.{Sized as DeskSized, carried-sized, helds-carried}
+use Rattle.opening.proofs.Opened.{noDesk, right-start}
+use Rattle.driving.specs.Driving.{PlanState, noActs, drivenFrom, reasonsFrom, totalsOf}
 use Rattle.driving.specs.Sized.{Sized, Kept}
 use Rattle.driving.specs.declared.Totals.{Totals}
 use Rattle.driving.proofs.Input.{inputWith, stateWith, inputOf}
@@ -38,63 +40,11 @@ use Rattle.driving.proofs.TurnsRight.{StandsFor}
 use Rattle.driving.proofs.Driven.{driven-is, driven-reasons}
 use Rattle.planning.specs.Planning.{plansOf}
 
--- a desk and steps of zeros
-abbrev pub noDesk : List (List ℕ)
-noDesk = replicate 4 (replicate 512 0)
-
+-- steps of zeros
 abbrev pub noSteps : List (List ℕ)
 noSteps = replicate 2 (replicate 2048 0)
 
--- no resident is listed
-listed-none : (j : Job) (d : ℕ) (residents : List ℕ) → Listed j noneResident d residents 0
-listed-none j d residents = record {
-  each = λ i l. absurd (omega arith);
-  all = λ b inside. clash (inside .mark) (none-resident b);
-  once = λ i k l r e. absurd (omega arith);
-}
-
 module _ (j : Job) (sound : Sound j) (disks : List ℕ) (same : (b : ℕ) → b < blockCount j → getD disks b 0 ≡ diskOf j b) where
-  -- the first reference of a disk
-  first-right : (d : ℕ) → Pointer j noneResident 0 d (chainFrom disks (j .refs) 0 d) (firsts (j .refs) 512 0)
-  first-right d = record {
-    onward = omega arith;
-    within = chain-to disks (j .refs) 0 d (omega arith);
-    onDisk = λ l. sym (same (refAt j first) (sound .toBlocks first l)) ∙ chain-hit disks (j .refs) 0 d l;
-    least = λ b k on out. (let e = kept b k on in let f = distance-from (j .refs) first b in omega (arith, e, f));
-    laters = λ b k on. firsts-at (j .refs) 512 0 b (let few = sound .fewBlocks in omega (arith, few)) ∙ sym (kept b k on);
-  }
-    where
-      first : ℕ
-      first = chainFrom disks (j .refs) 0 d
-
-      kept : (b : ℕ) → b < blockCount j → diskOf j b ≡ d → distance (j .refs) first b ≡ distance (j .refs) 0 b
-      kept b k on = chain-distance disks (j .refs) 0 d b (omega arith) (same b k ∙ on)
-
-  disk-start : (d : ℕ) (residents : List ℕ) → d < diskCount j
-      → DiskRight j noneResident 0 d residents (getD (firsts (refDisks disks (j .refs)) 512 0) d 0) (firsts (j .refs) 512 0)
-  disk-start d residents l =
-      rw (chain-head disks (j .refs) 512 d (let few = sound .fewDisks in omega (arith, few))) record {
-        listed = rw (load-none j d) (listed-none j d residents);
-        pointer = first-right d;
-        stops = λ _. none-resident _;
-      }
-
-  -- The desk is right in the start state.
-  right-start : Right j (start j) (opened disks (j .refs) noDesk)
-  unfolding start opened
-  right-start = record {
-    disks = λ d l. disk-start d (replicate 512 0) l;
-    distances = λ b l. firsts-at (j .refs) 512 0 b l;
-    rows = refl;
-    longNexts = firsts-length (j .refs) 512 0;
-    longLaters = firsts-length (j .refs) 512 0;
-    longHelds = length-replicate {A = ℕ} 512 0;
-    longLooks = firsts-length (refDisks disks (j .refs)) 512 0;
-  }
-
-  pub stands-start : StandsFor j (start j) (stateWith emptyBuffers (opened disks (j .refs) noDesk) noActs)
-  stands-start = record { holds = holds-start j (sound .fewDisks); right = right-start; rows = refl; longFetched = refl; longDiscarded = refl; longReasons = refl }
-
   pub forward-start : Forward j (stepped disks (j .refs) noSteps)
   forward-start =
       let long = length-replicate {A = ℕ} 2048 0 in
@@ -108,6 +58,15 @@ module _ (j : Job) (sound : Sound j) (disks : List ℕ) (same : (b : ℕ) → b 
       let to = distance-to l 0 b (omega arith) in
       omega (arith, at, to)
 
+  -- the desk of empty buffers
+  pub open-sized : DeskSized (j .refs) (opened disks (j .refs) noDesk)
+  unfolding opened
+  open-sized = record {
+    rows = refl;
+    within = subst (λ (n : ℕ). Below (suc n) (firsts (refDisks disks (j .refs)) 512 0)) (refDisks-length disks (j .refs))
+        (firsts-small (refDisks disks (j .refs)));
+  }
+
   pub sized-start : (rule : Rule) → Sized (inputOf j (stepped disks (j .refs) noSteps) rule)
   sized-start rule = record {
     fewDisks = sound .fewDisks;
@@ -120,20 +79,35 @@ module _ (j : Job) (sound : Sound j) (disks : List ℕ) (same : (b : ℕ) → b 
     diskSteps = forward-ahead forward-start;
   }
 
-  pub kept-start : (rule : Rule)
-      → Kept (inputOf j (stepped disks (j .refs) noSteps) rule) (stateWith emptyBuffers (opened disks (j .refs) noDesk) noActs)
-  unfolding opened emptyBuffers
-  kept-start rule = record {
-    held = λ d l. (let z = getD-same {A = ℕ} 8 d 0 in omega (arith, z));
-    deskRows = refl;
-    smallNexts = λ b l. (let small = firsts-small (j .refs) b l in let few = sound .fewRefs in omega (arith, small, few));
-    smallHelds = λ b l. (let z = getD-same {A = ℕ} 512 b 0 in omega (arith, z));
-    smallLooks = subst (λ (n : ℕ). Below (suc n) (firsts (refDisks disks (j .refs)) 512 0)) (refDisks-length disks (j .refs))
-        (firsts-small (refDisks disks (j .refs)));
-    actRows = refl;
-    smallFetched = λ d l. (let z = getD-replicate {A = ℕ} 8 d 512 0 l in omega (arith, z));
-    smallDiscarded = λ d l. (let z = getD-replicate {A = ℕ} 8 d 512 0 l in omega (arith, z));
-  }
+  -- Buffers that hold the state before round 1, and the desk that `carry` makes for them.
+  module _ (b : Buffers) (holds : Holds j b (start j)) (blocks : List ℕ) (long : length blocks ≡ 512) (small : Below 512 blocks)
+      (listed : (d i : ℕ) → d < diskCount j → i < length (carriedOn j d) → getD blocks (d * 64 + i) 0 ≡ carriedAt j d i) where
+    abbrev desk : List (List ℕ)
+    desk = carriedDesk b blocks (diskCount j) (j .refs) (stepped disks (j .refs) noSteps) (opened disks (j .refs) noDesk)
+
+    right : Right j (start j) desk
+    right = right-start j sound disks same blocks long listed forward-start b (holds .marks) (holds .read)
+
+    desk-sized : DeskSized (j .refs) desk
+    desk-sized = carried-sized b blocks (diskCount j) (j .refs) (stepped disks (j .refs) noSteps) (opened disks (j .refs) noDesk) (sound .fewRefs)
+        (forward-ahead forward-start) open-sized
+
+    pub stands-start : StandsFor j (start j) (stateWith b desk noActs)
+    stands-start = record { holds = holds; right = right; rows = refl; longFetched = refl; longDiscarded = refl; longReasons = refl }
+
+    pub kept-start : (rule : Rule) → Kept (inputOf j (stepped disks (j .refs) noSteps) rule) (stateWith b desk noActs)
+    kept-start rule = record {
+      held = λ d l. (let load = holds .loads d l in let fits = ready-start j sound .loads d l in omega (arith, load, fits));
+      deskRows = desk-sized .rows;
+      smallNexts = λ c l. (let n = right .longNexts in let at = right .distances c (omega (arith, n, l)) in
+          let to = distance-to (j .refs) (start j .next) c (start-within j) in let few = sound .fewRefs in omega (arith, at, to, few));
+      smallHelds = subst (Below 512) (sym (helds-carried b blocks (diskCount j) (j .refs) (stepped disks (j .refs) noSteps) (opened disks (j .refs) noDesk)
+          (sound .fewRefs) (forward-ahead forward-start) open-sized)) small;
+      smallLooks = desk-sized .within;
+      actRows = refl;
+      smallFetched = λ d l. (let z = getD-replicate {A = ℕ} 8 d 512 0 l in omega (arith, z));
+      smallDiscarded = λ d l. (let z = getD-replicate {A = ℕ} 8 d 512 0 l in omega (arith, z));
+    }
 
 -- A job by value: what `run` lends, and what both plans are.
 module _ (c : Stored) (fits : Fits c) where
@@ -160,8 +134,66 @@ module _ (c : Stored) (fits : Fits c) where
   unfolding jobOf
   on-disk b l = sym (getD-take (c .blocks) (c .disk) b 0 (let e = length-take (c .blocks) (c .disk) in omega (arith, l, e)))
 
-  module _ (rule : Rule) {b : Buffers} {desk steps : List (List ℕ)} (eb : b ≡ emptyBuffers) (ed : desk ≡ opened (c .disk) refs noDesk)
-      (es : steps ≡ stepped (c .disk) refs noSteps) where
+  -- the blocks carried in, where `run` has them
+  carried-listed : (d i : ℕ) → d < diskCount (jobOf c) → i < length (carriedOn (jobOf c) d) → getD (c .carried) (d * 64 + i) 0 ≡ carriedAt (jobOf c) d i
+  unfolding jobOf
+  carried-listed d i l p =
+      let disks = slots-lent in
+      let list : carriedOn (jobOf c) d ≡ carriedIn c d =
+      getD-each (carriedIn c) 0 (c .disks) d [] (omega (arith, disks, l)) ∙ ap (carriedIn c) (let e : 0 + d ≡ d = omega arith in e) in
+      let cut = length-take (getD (c .held) d 0) (drop (d * 64) (c .carried)) in
+      let long = ap length list in
+      sym (ap (λ (x : List ℕ). getD x i 0) list ∙ getD-take (getD (c .held) d 0) (drop (d * 64) (c .carried)) i 0 (omega (arith, cut, long, p))
+      ∙ getD-drop (d * 64) (c .carried) i 0)
+
+  -- the desk that `open` makes, and the one that `carry` makes of it
+  abbrev openDesk : List (List ℕ)
+  openDesk = opened (c .disk) refs noDesk
+
+  abbrev openSteps : List (List ℕ)
+  openSteps = stepped (c .disk) refs noSteps
+
+  -- what `carry` asks,
+  pub carry-asks : (n : ℕ) → n ≤ c .disks → {b : Buffers} {desk steps : List (List ℕ)} → b ≡ startBuffers c → desk ≡ openDesk → steps ≡ openSteps
+      → ((n ≤ 8) × (length desk ≡ 4) × Below (suc (length refs)) (looks desk) × (b .next ≤ length refs))
+      × ((length refs ≤ 2048) × Below 512 refs × Ahead (length refs) (ofDisk steps))
+  unfolding jobOf
+  carry-asks n l eb ed es =
+      let sized = subst (DeskSized refs) (sym ed) (open-sized (jobOf c) (fits .sound) (c .disk) on-disk) in
+      let read = ap (λ (x : Buffers). x .next) eb ∙ holds-start c fits .read in
+      let within = start-within (jobOf c) in (
+        ((let few = fits .fewDisks in omega (arith, few)), sized .rows, sized .within, omega (arith, read, within)),
+        (
+          refs-few,
+          refs-small,
+          subst (λ (x : List (List ℕ)). Ahead (length refs) (ofDisk x)) (sym es)
+              (forward-ahead (forward-start (jobOf c) (fits .sound) (c .disk) on-disk)),
+        ),
+      )
+
+  module _ (rule : Rule) {b : Buffers} {first desk steps : List (List ℕ)} (eb : b ≡ startBuffers c) (ef : first ≡ openDesk) (es : steps ≡ openSteps)
+      (ed : desk ≡ carriedDesk b (c .carried) (c .disks) refs steps first) where
+    -- what is driven from,
+    abbrev from : PlanState
+    from = stateWith (startBuffers c) (carriedDesk (startBuffers c) (c .carried) (diskCount (jobOf c)) refs openSteps openDesk) noActs
+
+    from-is : stateWith b desk noActs ≡ from
+    unfolding jobOf
+    from-is =
+        let desks = ed
+        ∙ (λ i. carriedDesk (eb i) (c .carried) (c .disks) refs (es i) (ef i))
+        ∙ ap (λ (n : ℕ). carriedDesk (startBuffers c) (c .carried) n refs openSteps openDesk) slots-lent in
+        λ i. record { buffers = eb i; desk = desks i; acts = noActs }
+
+    stands : StandsFor (jobOf c) (start (jobOf c)) (stateWith b desk noActs)
+    unfolding jobOf
+    stands = subst (StandsFor (jobOf c) (start (jobOf c))) (sym from-is) (stands-start (jobOf c) (fits .sound) (c .disk) on-disk (startBuffers c)
+        (holds-start c fits) (c .carried) (fits .longCarried) (λ i l. fits .smallCarried i) carried-listed)
+
+    forward : Forward (jobOf c) steps
+    unfolding jobOf
+    forward = subst (Forward (jobOf c)) (sym es) (forward-start (jobOf c) (fits .sound) (c .disk) on-disk)
+
     -- what `drive` asks,
     pub drive-asks : {sheet : List ℕ} → sheet ≡ replicate 40968 0
         → Sized (inputWith slots refs steps rule) × Kept (inputWith slots refs steps rule) (stateWith b desk noActs) × (c .count ≤ 2048)
@@ -169,7 +201,8 @@ module _ (c : Stored) (fits : Fits c) where
     unfolding jobOf
     drive-asks zero-sheet = (
       rw es (sized-start (jobOf c) (fits .sound) (c .disk) on-disk rule),
-      rw (eb, ed, es) (kept-start (jobOf c) (fits .sound) (c .disk) on-disk rule),
+      rw (from-is, es) (kept-start (jobOf c) (fits .sound) (c .disk) on-disk (startBuffers c) (holds-start c fits) (c .carried) (fits .longCarried)
+          (λ i l. fits .smallCarried i) carried-listed rule),
       fits .fewRefs,
       zero-sheet,
     )
@@ -179,10 +212,7 @@ module _ (c : Stored) (fits : Fits c) where
     unfolding jobOf scheduleOf planOf
     drive-gives =
         ap (λ (n : ℕ). drivenFrom (inputWith slots refs steps rule) n (stateWith b desk noActs)) refs-lent
-        ∙ rw (eb, ed, es)
-        (driven-is rule (jobOf c) (fits .sound) (forward-start (jobOf c) (fits .sound) (c .disk) on-disk) (length refs) (start (jobOf c))
-        (ready-start (jobOf c) (fits .sound .fewBlocks)) (stateWith emptyBuffers (opened (c .disk) refs noDesk) noActs)
-        (stands-start (jobOf c) (fits .sound) (c .disk) on-disk))
+        ∙ driven-is rule (jobOf c) (fits .sound) forward (length refs) (start (jobOf c)) (ready-start (jobOf c) (fits .sound)) (stateWith b desk noActs) stands
 
     -- and for which reasons
     pub drive-reasons : (lent : List ℕ) {reasons : List ℕ} → reasons ≡ laid (reasonsFrom (inputWith slots refs steps rule) (c .count) (stateWith b desk noActs)) lent
@@ -190,10 +220,8 @@ module _ (c : Stored) (fits : Fits c) where
     unfolding jobOf planOf
     drive-reasons lent h =
         h ∙ ap (λ (n : ℕ). laid (reasonsFrom (inputWith slots refs steps rule) n (stateWith b desk noActs)) lent) refs-lent
-        ∙ ap (λ (l : List ℕ). laid l lent) (rw (eb, ed, es)
-        (driven-reasons rule (jobOf c) (fits .sound) (forward-start (jobOf c) (fits .sound) (c .disk) on-disk) (length refs) (start (jobOf c))
-        (ready-start (jobOf c) (fits .sound .fewBlocks)) (stateWith emptyBuffers (opened (c .disk) refs noDesk) noActs)
-        (stands-start (jobOf c) (fits .sound) (c .disk) on-disk)))
+        ∙ ap (λ (l : List ℕ). laid l lent)
+        (driven-reasons rule (jobOf c) (fits .sound) forward (length refs) (start (jobOf c)) (ready-start (jobOf c) (fits .sound)) (stateWith b desk noActs) stands)
 
   -- what `run` gives
   pub run-gives : {a b : Totals} {x y : List ℕ} {one two : Schedule} → one ≡ scheduleOf (ruleOf Short) (jobOf c)

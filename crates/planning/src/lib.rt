@@ -22,8 +22,8 @@ pub struct Plans {
     pub sparing: Totals,
 }
 
-// Both plans of a job, each written as a sheet into a buffer of zeros, and the reasons of each, as far as their slices reach. The desk and the steps
-// are made once; each plan has a desk of its own.
+// Both plans of a job, each written as a sheet into a buffer of zeros, and the reasons of each, as far as their slices reach. The buffers, the desk and
+// the steps are made once; each plan has a desk of its own.
 pub fn run(
     job: Job,
     short: &mut [u8],
@@ -42,15 +42,18 @@ pub fn run(
     let all = job.refs;
     let disk = job.disk;
     let every = job.slots;
+    let held = job.held;
+    let blocks = job.carried;
+    let b = Buffers::carrying(disks, held, &blocks).read_on(&all, n);
     let refs = &all[..n];
     let slots = &every[..disks];
     let mut desk: Desk = [[0; 512]; 4];
     let mut steps: Steps = [[0; 2048]; 2];
     lookup::open(refs, &disk, &mut desk, &mut steps);
-    let none = Buffers::empty();
+    opening::carry(b, &blocks, disks, refs, &steps, &mut desk);
     let mut first = desk;
     let a = driving::drive(
-        none,
+        b,
         n,
         slots,
         refs,
@@ -60,8 +63,8 @@ pub fn run(
         short,
         short_reasons,
     );
-    let b = driving::drive(
-        none,
+    let c = driving::drive(
+        b,
         n,
         slots,
         refs,
@@ -73,6 +76,6 @@ pub fn run(
     );
     Plans {
         short: a,
-        sparing: b,
+        sparing: c,
     }
 }

@@ -1,32 +1,80 @@
 -- The methods of the playing state lead from states of the model to states of the model. Assumes nothing.
 use mathlib.Core.Path.{_≡_, refl, sym, ap, _∙_}
 use mathlib.Core.Bool.{Bool, true, false, _&&_}
-use mathlib.Core.List.{List}
-use Prim.Native.Nat.{ℕ, _+_, _-_, _≤_, _<_}
+use mathlib.Core.List.{List, [], _∷_, _++_}
+use Prim.Native.Nat.{ℕ, suc, _+_, _-_, _*_, _≤_, _<_}
 use native.Mathlib.Omega.{arith}
 use lib.Dec.{eqb}
-use lib.ListN.{length, getD, set, length-set, length-replicate, getD-replicate}
-use lib.Seq.{getD-set-same, getD-set-other, set-set}
+use lib.ListN.{length, getD, set, take, drop, replicate, length-set, length-drop, drop-of-length-le}
+use lib.Seq.{getD-set-same, getD-set-other, set-set, take-suc, getD-drop, drop-cons}
 use borrow.Author.Tests.{eq-eqb, eqb-true, eqb-false}
 use Rattle.bits.proofs.Logic.{by-test, clash}
 use Rattle.model.specs.Job.{Job, diskCount, blockCount, diskOf}
-use Rattle.model.specs.Playing.{Action, fetch, replace, State, start, noneResident, isResident, load, act, fetched, discarded}
+use Rattle.model.specs.Playing.{Action, fetch, replace, State, noneResident, isResident, load, act, consumed, marked, markedAll, fetched, discarded}
+use Rattle.model.specs.Plans.{each}
 use Rattle.model.specs.Valid.{Block, Legal}
 use Rattle.model.proofs.Counting.{count-drop}
-use Rattle.model.proofs.Buffers.{load-own, load-elsewhere, load-none}
+use Rattle.model.proofs.Buffers.{load-own, load-elsewhere}
+use Rattle.model.proofs.Plans.{each-more}
+use Rattle.model.proofs.Carried.{marked-more, markedAll-more}
 use Rattle.playing.specs.declared.Buffers.{Buffers}
-use Rattle.playing.specs.Playing.{emptyBuffers, fetchInto, discardFrom, replaceIn, consumeOne, Holds, acted, readOne}
+use Rattle.playing.specs.Playing.{carriedLists, carryingBuffers, fetchInto, discardFrom, replaceIn, consumeOne, readOnFrom, Holds, acted, readOne}
 
--- "buffers are empty at the start"
-pub holds-start : (j : Job) → diskCount j ≤ 8 → Holds j emptyBuffers (start j)
-unfolding emptyBuffers start noneResident
-holds-start j few = record {
-  marks = refl;
-  loads = λ d p. getD-replicate 8 d 0 0 (omega arith) ∙ sym (load-none j d);
-  read = refl;
-  marksLong = length-replicate 512 false;
-  heldLong = refl;
-}
+-- The blocks carried in, marked one by one and disk by disk.
+
+pub mark-next : (marks resident : List Bool) (blocks : List ℕ) (from i : ℕ) → from + i < length blocks → resident ≡ marked marks (take i (drop from blocks))
+    → set resident (getD blocks (from + i) 0) true ≡ marked marks (take (i + 1) (drop from blocks))
+mark-next marks resident blocks from i room h =
+    let long = length-drop from blocks in
+    ap (λ (m : List Bool). set m (getD blocks (from + i) 0) true) h
+    ∙ sym (marked-more marks (take i (drop from blocks)) (getD blocks (from + i) 0))
+    ∙ ap (λ (b : ℕ). marked marks (take i (drop from blocks) ++ (b ∷ []))) (sym (getD-drop from blocks i 0))
+    ∙ ap (marked marks) (sym (take-suc (drop from blocks) i 0 (omega (arith, long))))
+    ∙ ap (λ (n : ℕ). marked marks (take n (drop from blocks))) (let e : suc i ≡ i + 1 = omega arith in e)
+
+pub carry-next : (held blocks : List ℕ) (d : ℕ) (before after : List Bool) → before ≡ carryingBuffers d held blocks .resident
+    → after ≡ marked before (take (getD held d 0) (drop (d * 64) blocks)) → after ≡ carryingBuffers (d + 1) held blocks .resident
+unfolding carryingBuffers
+carry-next held blocks d before after h e =
+    e ∙ ap (λ (m : List Bool). marked m (take (getD held d 0) (drop (d * 64) blocks))) h
+    ∙ sym (markedAll-more noneResident (carriedLists d held blocks) (take (getD held d 0) (drop (d * 64) blocks)))
+    ∙ ap (markedAll noneResident) (ap (λ (n : ℕ). carriedLists d held blocks ++ (take (getD held n 0) (drop (n * 64) blocks) ∷ []))
+    (let z : d ≡ 0 + d = omega arith in z) ∙ sym (each-more (λ (n : ℕ). take (getD held n 0) (drop (n * 64) blocks)) 0 d))
+    ∙ ap (λ (n : ℕ). markedAll noneResident (carriedLists n held blocks)) (let z : suc d ≡ d + 1 = omega arith in z)
+
+pub carry-none : (held blocks : List ℕ) → replicate 512 false ≡ carryingBuffers 0 held blocks .resident
+unfolding carryingBuffers noneResident
+carry-none held blocks = refl
+
+pub carry-all : (disks : ℕ) (held blocks : List ℕ) (resident : List Bool) → resident ≡ carryingBuffers disks held blocks .resident
+    → record { resident = resident; held = held; next = 0 } ≡ carryingBuffers disks held blocks
+unfolding carryingBuffers
+carry-all disks held blocks resident h = λ i. record { resident = h i; held = held; next = 0 }
+
+-- References that are read on.
+module _ (b : Buffers) (refs : List ℕ) where
+  pub read-one : b .next < length refs → getD (b .resident) (getD refs (b .next) 0) false ≡ true → readOnFrom (consumeOne b) refs ≡ readOnFrom b refs
+  unfolding readOnFrom consumeOne consumed
+  read-one l here = λ i. record { resident = b .resident; held = b .held; next = next i }
+    where
+      next : (b .next + 1) + consumed (b .resident) (drop (b .next + 1) refs) ≡ b .next + consumed (b .resident) (drop (b .next) refs)
+      next =
+          let one : b .next + 1 ≡ suc (b .next) = omega arith in
+          rw (drop-cons refs (b .next) 0 l, here, one) (omega arith)
+
+  pub read-missing : b .next < length refs → getD (b .resident) (getD refs (b .next) 0) false ≡ false → readOnFrom b refs ≡ b
+  unfolding readOnFrom consumed
+  read-missing l out = λ i. record { resident = b .resident; held = b .held; next = next i }
+    where
+      next : b .next + consumed (b .resident) (drop (b .next) refs) ≡ b .next
+      next = rw (drop-cons refs (b .next) 0 l, out) (omega arith)
+
+  pub read-end : length refs ≤ b .next → readOnFrom b refs ≡ b
+  unfolding readOnFrom consumed
+  read-end l = λ i. record { resident = b .resident; held = b .held; next = next i }
+    where
+      next : b .next + consumed (b .resident) (drop (b .next) refs) ≡ b .next
+      next = rw (drop-of-length-le refs {i = b .next} l) (omega arith)
 
 -- only marks and next read count
 pub holds-same : (j : Job) (b : Buffers) (s t : State) → s .resident ≡ t .resident → s .next ≡ t .next → Holds j b s → Holds j b t

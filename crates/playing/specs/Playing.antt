@@ -1,16 +1,24 @@
 -- What each method of the playing state gives, and which state of the model it is. Document 01, "Playing a round": "Playing takes the state of
--- the buffers and gives back the next." Assumes nothing.
+-- the buffers and gives back the next." Document 02, L9: the state before round 1. Assumes nothing.
 use mathlib.Core.Path.{_≡_}
 use mathlib.Core.Bool.{true, false}
-use Prim.Native.Nat.{ℕ, suc, _+_, _-_, _<_}
-use lib.ListN.{length, getD, set, replicate}
+use mathlib.Core.List.{List}
+use Prim.Native.Nat.{ℕ, suc, _+_, _-_, _*_, _<_}
+use lib.ListN.{length, getD, set, take, drop}
 use Rattle.model.specs.Job.{Job, diskCount}
-use Rattle.model.specs.Playing.{Action, State, load, act}
+use Rattle.model.specs.Playing.{Action, State, noneResident, load, act, consumed, markedAll}
+use Rattle.model.specs.Plans.{each}
+use Rattle.job.specs.declared.Job.{Job as Stored}
 use Rattle.playing.specs.declared.Buffers.{Buffers}
 
--- "buffers are empty at the start"
-unfoldable pub emptyBuffers : Buffers
-emptyBuffers = record { resident = replicate 512 false; held = replicate 8 0; next = 0 }
+-- L9: the blocks carried in on each disk: of disk d as many as `held` says, from the place d * 64 on.
+abbrev pub carriedLists : ℕ → List ℕ → List ℕ → List (List ℕ)
+carriedLists disks held blocks = each (λ d. take (getD held d 0) (drop (d * 64) blocks)) 0 disks
+
+-- These are in the buffers, and nothing is read.
+unfoldable pub carryingBuffers : ℕ → List ℕ → List ℕ → Buffers
+unfolding each noneResident markedAll
+carryingBuffers disks held blocks = record { resident = markedAll noneResident (carriedLists disks held blocks); held = held; next = 0 }
 
 -- A block enters the buffer of a disk.
 unfoldable pub fetchInto : Buffers → ℕ → ℕ → Buffers
@@ -30,6 +38,16 @@ replaceIn b out block disk = fetchInto (discardFrom b out disk) block disk
 -- One reference is consumed.
 unfoldable pub consumeOne : Buffers → Buffers
 consumeOne b = record { resident = b .resident; held = b .held; next = b .next + 1 }
+
+-- "Before round 1 the suite reads as far as these allow": references are consumed while the next one's block is in the buffers.
+unfoldable pub readOnFrom : Buffers → List ℕ → Buffers
+unfolding consumed
+readOnFrom b refs = record { resident = b .resident; held = b .held; next = b .next + consumed (b .resident) (drop (b .next) refs) }
+
+-- The state before round 1, of a job by value.
+unfoldable pub startBuffers : Stored → Buffers
+unfolding carryingBuffers readOnFrom
+startBuffers c = readOnFrom (carryingBuffers (c .disks) (c .held) (c .carried)) (take (c .count) (c .refs))
 
 -- The playing state holds a state of the model: the same marks and the same next read, and for each disk of the job the blocks in its buffer
 -- as a number. (The rounds played are counted by the player.)

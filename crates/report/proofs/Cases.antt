@@ -5,7 +5,7 @@ use mathlib.Core.List.{List}
 use Prim.Native.Nat.{ℕ}
 use Rattle.bits.specs.Reading.{bind, _>>=_, _>>_, give, field, refuseIf, many, closing, answer, readAll}
 use Rattle.model.specs.Job.{upTo}
-use Rattle.model.specs.Ticket.{slotsField, diskField, refField, ticketReader, ticketOf}
+use Rattle.model.specs.Ticket.{slotsField, diskField, refField, carriedBlocks, carriedField, carriedFields, ticketReader, ticketOf}
 use Rattle.model.specs.Calls.{stopAt, jobUpTo, plannedFor, pageFor}
 use Rattle.model.specs.Playing.{noneResident, load, play}
 use Rattle.model.proofs.Answers.{hex}
@@ -22,20 +22,25 @@ unfolding pagePrinted
 page-whole room t = ap pageLines (whole-page t 40962 40962 room)
 
 -- sparing 4, 0 2, 1 3
-pub prints-F : printed (hex 15 0x2020805009200e020180002020200c) ≡ hex 18 0x73706172696e6720340a3020320a3120330a
-unfolding printed hex _>>=_ _>>_ bind give field refuseIf many closing answer readAll stopAt upTo jobUpTo slotsField diskField refField ticketReader ticketOf play load noneResident
+pub prints-F : printed (hex 17 0x2020805009200e020180002020200c0000) ≡ hex 18 0x73706172696e6720340a3020320a3120330a
+unfolding printed hex _>>=_ _>>_ bind give field refuseIf many closing answer readAll stopAt upTo jobUpTo slotsField diskField refField carriedBlocks carriedField carriedFields ticketReader ticketOf play load noneResident
 prints-F = refl
 
 -- short 6, 0 6, 1 5
-pub prints-G : printed (hex 32 0x2060c080002490150000404040180002050301c0404028180001010100600008) ≡ hex 16 0x73686f727420360a3020360a3120350a
-unfolding printed hex _>>=_ _>>_ bind give field refuseIf many closing answer readAll stopAt upTo jobUpTo slotsField diskField refField ticketReader ticketOf play load noneResident
+pub prints-G : printed (hex 34 0x2060c080002490150000404040180002050301c04040281800010101006000080000) ≡ hex 16 0x73686f727420360a3020360a3120350a
+unfolding printed hex _>>=_ _>>_ bind give field refuseIf many closing answer readAll stopAt upTo jobUpTo slotsField diskField refField carriedBlocks carriedField carriedFields ticketReader ticketOf play load noneResident
 prints-G = refl
+
+-- sparing 3, 0 2, 1 1: F with 1 carried in on disk 0, and 2 and 3 on disk 1
+pub prints-carried : printed (hex 20 0x2020805009200e020180002020200c0804100806) ≡ hex 18 0x73706172696e6720330a3020320a3120310a
+unfolding printed hex _>>=_ _>>_ bind give field refuseIf many closing answer readAll stopAt upTo jobUpTo slotsField diskField refField carriedBlocks carriedField carriedFields ticketReader ticketOf play load noneResident
+prints-carried = refl
 
 -- refused 2
 pub prints-K : printed (hex 1 0x00) ≡ hex 10 0x7265667573656420320a
-unfolding printed hex _>>=_ _>>_ bind give field refuseIf many closing answer readAll stopAt upTo jobUpTo slotsField diskField refField ticketReader ticketOf
+unfolding printed hex _>>=_ _>>_ bind give field refuseIf many closing answer readAll stopAt upTo jobUpTo slotsField diskField refField carriedBlocks carriedField carriedFields ticketReader ticketOf
 prints-K = refl
 
 pub page-K : pagePrinted 278613 (hex 1 0x00) ≡ hex 10 0x7265667573656420320a
-unfolding pagePrinted hex _>>=_ _>>_ bind give field refuseIf many closing answer readAll stopAt upTo jobUpTo slotsField diskField refField ticketReader ticketOf
+unfolding pagePrinted hex _>>=_ _>>_ bind give field refuseIf many closing answer readAll stopAt upTo jobUpTo slotsField diskField refField carriedBlocks carriedField carriedFields ticketReader ticketOf
 page-K = refl

@@ -26,6 +26,6 @@ textOf p disks = textBy (p .mark) p disks
 
 -- The numbers of a call and of its plans are as documents 01 and 02 bound them.
 pub record Small (p : Planned) : Type 0 where
-  pub number : p .number ≤ 21
+  pub number : p .number ≤ 26
   pub short : p .short .rounds ≤ 2048
   pub sparing : p .sparing .rounds ≤ 2048

@@ -1,12 +1,12 @@
--- One field of a ticket: its value is among those of its row, and a reader reads it so. Assumes nothing.
+-- One field of a ticket: its value is among those of its row, its refusal has a number, and a reader reads it so. Assumes nothing.
 use mathlib.Core.Path.{_≡_, refl, subst}
-use mathlib.Core.Bool.{Bool, true, false, cond}
+use mathlib.Core.Bool.{Bool, true, false, cond, _||_}
 use mathlib.Core.List.{List}
 use Prim.Native.Nat.{ℕ, _+_, _≤_, _<_}
 use native.Mathlib.Omega.{arith}
 use lib.Dec.{ltb, leb}
 use lib.ListN.{drop}
-use borrow.Author.Tests.{ltb-false, leb-false}
+use borrow.Author.Tests.{ltb-false, leb-false, le-ltb}
 use Rattle.bits.specs.Bits.{bits}
 use Rattle.bits.specs.Reading.{Reader, bind, _>>=_, _>>_, field, refuseIf}
 use Rattle.bits.specs.Fields.{fieldAt}
@@ -36,6 +36,19 @@ entry-within t at row {v} e = go (fieldAt t at (row .width)) e
     go (Value x) p = tested x (outside row x) refl p
     go Ended p = let z : _≡_ {A = ℕ} 0 1 = cc in absurd (omega arith)
 
+-- No refusal has the number 0.
+pub entry-numbered : (t : List ℕ) (at : ℕ) (row : Row) {n : ℕ} → 1 ≤ row .number → entryAt t at row ≡ Refused n → 1 ≤ n
+unfolding entryAt entryOf
+entry-numbered t at row {n} h e = go (fieldAt t at (row .width)) e
+  where
+    tested : (v : ℕ) (b : Bool) → cond b (Refused (row .number)) (Held v) ≡ Refused n → 1 ≤ n
+    tested v true p = let same : row .number ≡ n = cc in omega (arith, same, h)
+    tested v false p = let z : _≡_ {A = ℕ} 0 1 = cc in absurd (omega arith)
+
+    go : (f : Field) → entryOf row f ≡ Refused n → 1 ≤ n
+    go (Value v) p = tested v (outside row v) p
+    go Ended p = let same : _≡_ {A = ℕ} 1 n = cc in omega (arith, same)
+
 -- A field, and then the test of its row, as a reader reads them.
 pub entry-reads : {A : Type 0} (t : List ℕ) (at : ℕ) (row : Row) (test : ℕ → Bool) (more : ℕ → Reader A) → 0 < row .width
     → ((v : ℕ) → test v ≡ outside row v)
@@ -45,3 +58,7 @@ unfolding _>>_ bind refuseIf entryAt entryOf entryThen
 entry-reads t at row test more p same =
     field-then 1 (row .width) at t _ (λ f. entryThen (drop (at + row .width) (bits t)) more (entryOf row f)) p refl λ v.
     rw (same v) (by-test (outside row v) (λ e. rw e) (λ e. rw e))
+
+-- a row from 0 on tests its limit alone
+pub any-test : (k v : ℕ) → leb k v ≡ ltb v 0 || leb k v
+any-test k v = rw (le-ltb v 0 (omega arith))

@@ -49,7 +49,8 @@ module _ (t : List ℕ) (stop : ℕ) where
     where
       go : Answered → jobUpTo t stop ≡ given (jobOf (counting stop (ticketRead t .job)))
       go (held j e few p q) =
-          let same : upTo stop j ≡ jobOf (counting stop (stored j)) = ap (upTo stop) (sym (jobOf-stored j)) ∙ sym (jobOf-counting stop (stored j) few) in
+          let back = jobOf-stored j (ticket-sound t j e) in
+          let same : upTo stop j ≡ jobOf (counting stop (stored j)) = ap (upTo stop) (sym back) ∙ sym (jobOf-counting stop (stored j) few) in
           stops-exactly t stop _ .1 (j, e, few, same ∙ ap (λ c. jobOf (counting stop c)) (sym q))
       go (none n e p some) = absurd (omega (arith, some, p, z))
 

@@ -1,5 +1,10 @@
 pub mod Entries
 pub mod Filling
+pub mod Blocks
 pub mod Parts
+pub mod Rows
+pub mod CarriedParts
+pub mod DiskByDisk
+pub mod Ending
 pub mod Stages
 pub mod Laws

@@ -1,126 +1,134 @@
 -- A part of a ticket as a reader reads it: its count, its entries, and then what follows. Assumes nothing.
-use mathlib.Core.Path.{_≡_, refl, sym, ap, _∙_, subst₂}
-use mathlib.Core.Bool.{Bool, true, false, cond}
+use mathlib.Core.Path.{_≡_, refl, sym, ap, _∙_, subst, subst₂}
+use mathlib.Core.Bool.{Bool}
 use mathlib.Core.List.{List, [], _∷_, _++_}
 use Prim.Native.Nat.{ℕ, zero, suc, _+_, _-_, _*_, _≤_, _<_}
 use native.Mathlib.Nat.{suc-mul, sub-zero, suc-sub-suc, not-suc-le-zero}
 use native.Mathlib.Omega.{arith}
-use lib.ListN.{length, drop, set, replicate, length-replicate}
-use lib.Seq.{sets, sets-eq}
-use Rattle.bits.specs.Bits.{bits}
-use Rattle.bits.specs.Reading.{Read, got, stop, Reader, _>>=_, _>>_, give, field, refuseIf, many}
-use Rattle.bits.specs.Fields.{fieldAt}
-use Rattle.bits.specs.declared.Field.{Field}
-use Rattle.bits.specs.declared.Field.the-variants.{Value, Ended}
+use lib.ListN.{length, take, drop, set, replicate, length-append, length-replicate}
+use lib.Seq.{sets, sets-eq, take-append-seam}
+use Rattle.bits.specs.Bits.{bits, Below}
+use Rattle.bits.specs.Reading.{Read, got, stop, Reader, bind, _>>=_, _>>_, give, field, refuseIf, many}
 use Rattle.bits.proofs.Reading.{bind-ok, bind-stop}
 use Rattle.job.specs.Meaning.{padTo}
-use Rattle.ticket.specs.Parts.{outside, entryOf, entryAt, entryThen, Filled, noPart, filledBy, fill, partAt}
+use Rattle.ticket.specs.Parts.{outside, entryAt, entryThen, Entries, ofRow, Filled, noPart, filledBy, fill, partAt}
 use Rattle.ticket.specs.declared.Row.{Row}
 use Rattle.ticket.specs.declared.Part.{Part}
 use Rattle.ticket.specs.declared.Entry.{Entry}
 use Rattle.ticket.specs.declared.Entry.the-variants.{Value as Held, Refused}
-use Rattle.ticket.proofs.Entries.{entry-within, entry-reads}
+use Rattle.ticket.proofs.Entries.{entry-within, entry-numbered, entry-reads}
 
--- No refusal has the number 0.
-entry-numbered : (t : List ℕ) (at : ℕ) (row : Row) {n : ℕ} → 1 ≤ row .number → entryAt t at row ≡ Refused n → 1 ≤ n
-unfolding entryAt entryOf
-entry-numbered t at row {n} h e = go (fieldAt t at (row .width)) e
+-- Readers of k entries, with the `least` of the first: entry by entry, each value below `limit`, and no refusal with the number 0.
+pub record Reads (t : List ℕ) (e : Entries) (limit : ℕ) (r : (k least : ℕ) → Reader (List ℕ)) : Type 0 where
+  pub none : (at least : ℕ) → r 0 least (drop at (bits t)) ≡ got [] (drop at (bits t))
+  pub one : (at k least : ℕ) → r (suc k) least (drop at (bits t))
+      ≡ entryThen (drop (at + e .width) (bits t)) (λ v. r k (suc v) >>= λ more. give (v ∷ more)) (e .entry at least)
+  pub below : (at least : ℕ) {v : ℕ} → e .entry at least ≡ Held v → v < limit
+  pub numbered : (at least : ℕ) {n : ℕ} → e .entry at least ≡ Refused n → 1 ≤ n
+
+-- Entries of a row, each by the same reader.
+pub row-reads : (t : List ℕ) (row : Row) (r : Reader ℕ) → 1 ≤ row .number
+    → ((at : ℕ) → r (drop at (bits t)) ≡ entryThen (drop (at + row .width) (bits t)) give (entryAt t at row))
+    → Reads t (ofRow t row) (row .limit) (λ k least. many k r)
+unfolding many give entryThen bind _>>=_
+row-reads t row r some reads = record {
+  none = λ at least. refl;
+  one = λ at k least.
+      ap (λ (x : Read ℕ). bind x (λ v. many k r >>= λ more. give (v ∷ more))) (reads at) ∙ go (drop (at + row .width) (bits t)) k (entryAt t at row);
+  below = λ at least e. entry-within t at row e .1;
+  numbered = λ at least e. entry-numbered t at row some e;
+}
   where
-    tested : (v : ℕ) (b : Bool) → cond b (Refused (row .number)) (Held v) ≡ Refused n → 1 ≤ n
-    tested v true p = let same : row .number ≡ n = cc in omega (arith, same, h)
-    tested v false p = let z : _≡_ {A = ℕ} 0 1 = cc in absurd (omega arith)
-
-    go : (f : Field) → entryOf row f ≡ Refused n → 1 ≤ n
-    go (Value v) p = tested v (outside row v) p
-    go Ended p = let same : _≡_ {A = ℕ} 1 n = cc in omega (arith, same)
-
--- A reader of one entry of a row.
-pub record Reads (t : List ℕ) (row : Row) (r : Reader ℕ) : Type 0 where
-  pub reads : (at : ℕ) → r (drop at (bits t)) ≡ entryThen (drop (at + row .width) (bits t)) give (entryAt t at row)
+    go : (rest : List ℕ) (k : ℕ) (x : Entry)
+        → bind (entryThen rest give x) (λ v. many k r >>= λ more. give (v ∷ more)) ≡ entryThen rest (λ v. many k r >>= λ more. give (v ∷ more)) x
+    go rest k (Held v) = refl
+    go rest k (Refused n) = refl
 
 -- What a reader of k entries gives beside a table filled with them: both have all, or both end with the same refusal.
-pub data Filling (t : List ℕ) (row : Row) (count at i k : ℕ) (table : List ℕ) (l : Read (List ℕ)) : Filled → Type 0 where
-  whole : (vs : List ℕ) (next : ℕ) → length vs ≡ k → next ≡ at + k * row .width → l ≡ got vs (drop next (bits t))
-      → Filling t row count at i k table l (record { part = record { number = 0; count = count; next = next }; table = sets table i vs })
-  broken : (n : ℕ) (left : List ℕ) → 1 ≤ n → l ≡ stop n → Filling t row count at i k table l (record { part = noPart n; table = left })
+pub data Filling (t : List ℕ) (width limit count at i k : ℕ) (table : List ℕ) (l : Read (List ℕ)) : Filled → Type 0 where
+  whole : (vs : List ℕ) (next : ℕ) → length vs ≡ k → Below limit vs → next ≡ at + k * width → l ≡ got vs (drop next (bits t))
+      → Filling t width limit count at i k table l (record { part = record { number = 0; count = count; next = next }; table = sets table i vs })
+  broken : (n : ℕ) (left : List ℕ) → 1 ≤ n → l ≡ stop n → Filling t width limit count at i k table l (record { part = noPart n; table = left })
 
-module _ (t : List ℕ) (row : Row) (r : Reader ℕ) (count : ℕ) where
+below-one-more : (limit v : ℕ) (vs : List ℕ) → v < limit → Below limit vs → Below limit (v ∷ vs)
+below-one-more limit v vs h below zero l = h
+below-one-more limit v vs h below (suc i) l = below i (omega arith)
+
+module _ (t : List ℕ) (e : Entries) (limit : ℕ) (r : (k least : ℕ) → Reader (List ℕ)) (h : Reads t e limit r) (count : ℕ) where
   -- one entry before others
-  fill-before : (at i k v : ℕ) (table : List ℕ) {f : Filled} → r (drop at (bits t)) ≡ got v (drop (at + row .width) (bits t))
-      → Filling t row count (at + row .width) (suc i) k (set table i v) (many k r (drop (at + row .width) (bits t))) f
-      → Filling t row count at i (suc k) table (many (suc k) r (drop at (bits t))) f
-  unfolding many give
-  fill-before at i k v table e (whole vs next len pos q) =
-      let m = suc-mul k (row .width) in
-      whole (v ∷ vs) next (ap suc len) (omega (arith, m, pos)) (bind-ok r _ _ e ∙ bind-ok (many k r) _ _ q)
-  fill-before at i k v table e (broken n left h q) = broken n left h (bind-ok r _ _ e ∙ bind-stop (many k r) _ _ q)
+  fill-before : (at i k v : ℕ) (table : List ℕ) {l : Read (List ℕ)} {f : Filled} → v < limit
+      → l ≡ (r k (suc v) >>= λ more. give (v ∷ more)) (drop (at + e .width) (bits t))
+      → Filling t (e .width) limit count (at + e .width) (suc i) k (set table i v) (r k (suc v) (drop (at + e .width) (bits t))) f
+      → Filling t (e .width) limit count at i (suc k) table l f
+  unfolding give
+  fill-before at i k v table small q (whole vs next len below pos g) =
+      let m = suc-mul k (e .width) in
+      whole (v ∷ vs) next (ap suc len) (below-one-more limit v vs small below) (omega (arith, m, pos)) (q ∙ bind-ok (r k (suc v)) _ _ g)
+  fill-before at i k v table small q (broken n left b g) = broken n left b (q ∙ bind-stop (r k (suc v)) _ _ g)
 
-  fill-step : (at i k : ℕ) (table : List ℕ) (e : Entry) (f : ℕ → Filled) → r (drop at (bits t)) ≡ entryThen (drop (at + row .width) (bits t)) give e
-      → ((n : ℕ) → e ≡ Refused n → 1 ≤ n)
-      → ((v : ℕ) → Filling t row count (at + row .width) (suc i) k (set table i v) (many k r (drop (at + row .width) (bits t))) (f v))
-      → Filling t row count at i (suc k) table (many (suc k) r (drop at (bits t))) (filledBy e table f)
-  unfolding filledBy entryThen give many
-  fill-step at i k table (Held v) f q h more = fill-before at i k v table q (more v)
-  fill-step at i k table (Refused n) f q h more = broken n table (h n refl) (bind-stop r _ _ q)
+  fill-step : (at least i k : ℕ) (table : List ℕ) (x : Entry) → e .entry at least ≡ x
+      → r (suc k) least (drop at (bits t)) ≡ entryThen (drop (at + e .width) (bits t)) (λ v. r k (suc v) >>= λ more. give (v ∷ more)) x
+      → ((v : ℕ) → Filling t (e .width) limit count (at + e .width) (suc i) k (set table i v) (r k (suc v) (drop (at + e .width) (bits t)))
+      (fill e count (at + e .width) (suc v) (suc i) k (set table i v)))
+      → Filling t (e .width) limit count at i (suc k) table (r (suc k) least (drop at (bits t)))
+      (filledBy x table λ v. fill e count (at + e .width) (suc v) (suc i) k (set table i v))
+  unfolding filledBy entryThen
+  fill-step at least i k table (Held v) q g more = fill-before at i k v table (h .below at least q) g (more v)
+  fill-step at least i k table (Refused n) q g more = broken n table (h .numbered at least q) g
 
-  fill-reads : Reads t row r → 1 ≤ row .number → (at i k : ℕ) (table : List ℕ)
-      → Filling t row count at i k table (many k r (drop at (bits t))) (fill t at row count i k table)
-  unfolding fill many give
-  fill-reads h b at i zero table = whole [] at refl (omega arith) refl
-  fill-reads h b at i (suc k) table =
-      fill-step at i k table (entryAt t at row) (λ v. fill t (at + row .width) row count (suc i) k (set table i v)) (h .reads at)
-      (λ n e. entry-numbered t at row b e)
-      (λ v. fill-reads h b (at + row .width) (suc i) k (set table i v))
+  pub fill-reads : (at least i k : ℕ) (table : List ℕ)
+      → Filling t (e .width) limit count at i k table (r k least (drop at (bits t))) (fill e count at least i k table)
+  unfolding fill
+  fill-reads at least i zero table = whole [] at refl (λ j l. absurd (omega arith)) (omega arith) (h .none at least)
+  fill-reads at least i (suc k) table =
+      fill-step at least i k table (e .entry at least) refl (h .one at k least)
+      (λ v. fill-reads (at + e .width) (suc v) (suc i) k (set table i v))
 
 -- A part as its reader reads it, beside the part that is read into a table: it goes on with the count and the entries, or ends with the refusal.
-pub data PartRead {A : Type 0} (t : List ℕ) (at : ℕ) (counts entries : Row) (table : List ℕ) (more : ℕ → List ℕ → Reader A) (l : Read A)
+pub data PartRead {A : Type 0} (t : List ℕ) (at : ℕ) (counts : Row) (width limit i : ℕ) (table : List ℕ) (more : ℕ → List ℕ → Reader A) (l : Read A)
     : Filled → Type 0 where
-  whole : (count next : ℕ) (vs : List ℕ) → counts .least ≤ count → count < counts .limit → length vs ≡ count
-      → next ≡ at + counts .width + count * entries .width → l ≡ more count vs (drop next (bits t))
-      → PartRead t at counts entries table more l (record { part = record { number = 0; count = count; next = next }; table = sets table 0 vs })
-  broken : (n : ℕ) (left : List ℕ) → 1 ≤ n → l ≡ stop n → PartRead t at counts entries table more l (record { part = noPart n; table = left })
+  whole : (count next : ℕ) (vs : List ℕ) → counts .least ≤ count → count < counts .limit → length vs ≡ count → Below limit vs
+      → next ≡ at + counts .width + count * width → l ≡ more count vs (drop next (bits t))
+      → PartRead t at counts width limit i table more l (record { part = record { number = 0; count = count; next = next }; table = sets table i vs })
+  broken : (n : ℕ) (left : List ℕ) → 1 ≤ n → l ≡ stop n → PartRead t at counts width limit i table more l (record { part = noPart n; table = left })
 
-module _ {A : Type 0} (t : List ℕ) (at : ℕ) (counts entries : Row) (table : List ℕ) (test : ℕ → Bool) (r : Reader ℕ)
-    (more : ℕ → List ℕ → Reader A) where
-  -- the part as a reader
+module _ {A : Type 0} (t : List ℕ) (at : ℕ) (counts : Row) (e : Entries) (limit i : ℕ) (table : List ℕ) (test : ℕ → Bool)
+    (r : (k least : ℕ) → Reader (List ℕ)) (more : ℕ → List ℕ → Reader A) (after : ℕ → Reader A) where
+  -- the part as a reader, which after the count goes on with the entries and what follows
   abbrev pub partReader : Reader A
-  partReader = field 1 (counts .width) >>= λ n. refuseIf (counts .number) (test n) >> (many n r >>= λ vs. more n vs)
+  partReader = field 1 (counts .width) >>= λ n. refuseIf (counts .number) (test n) >> after n
 
   part-filled : (l : Read A) (n : ℕ) {f : Filled} → counts .least ≤ n → n < counts .limit
-      → l ≡ (many n r >>= λ vs. more n vs) (drop (at + counts .width) (bits t))
-      → Filling t entries n (at + counts .width) 0 n table (many n r (drop (at + counts .width) (bits t))) f
-      → PartRead t at counts entries table more l f
-  part-filled l n p q e (whole vs next len pos g) = whole n next vs p q len pos (e ∙ bind-ok (many n r) _ _ g)
-  part-filled l n p q e (broken m left h g) = broken m left h (e ∙ bind-stop (many n r) _ _ g)
+      → l ≡ (r n 0 >>= λ vs. more n vs) (drop (at + counts .width) (bits t))
+      → Filling t (e .width) limit n (at + counts .width) i n table (r n 0 (drop (at + counts .width) (bits t))) f
+      → PartRead t at counts (e .width) limit i table more l f
+  part-filled l n p q g (whole vs next len below pos s) = whole n next vs p q len below pos (g ∙ bind-ok (r n 0) _ _ s)
+  part-filled l n p q g (broken m left b s) = broken m left b (g ∙ bind-stop (r n 0) _ _ s)
 
-  pub part-reads : 0 < counts .width → ((v : ℕ) → test v ≡ outside counts v) → 1 ≤ counts .number → 1 ≤ entries .number
-      → Reads t entries r
-      → PartRead t at counts entries table more (partReader (drop at (bits t))) (partAt t at counts entries table)
+  pub part-reads : 0 < counts .width → ((v : ℕ) → test v ≡ outside counts v) → 1 ≤ counts .number
+      → ((n : ℕ) (l : List ℕ) → after n l ≡ (r n 0 >>= λ vs. more n vs) l) → Reads t e limit r
+      → PartRead t at counts (e .width) limit i table more (partReader (drop at (bits t))) (partAt t at counts e i table)
   unfolding partAt filledBy entryThen
-  part-reads p same c b h =
-      let e = entry-reads t at counts test (λ n. many n r >>= λ vs. more n vs) p same in
-      go (entryAt t at counts) refl e
+  part-reads p same c goes h = go (entryAt t at counts) refl (entry-reads t at counts test after p same)
     where
-      rest : List ℕ
-      rest = drop (at + counts .width) (bits t)
-
       go : (x : Entry) → entryAt t at counts ≡ x
-          → partReader (drop at (bits t)) ≡ entryThen rest (λ n. many n r >>= λ vs. more n vs) x
-          → PartRead t at counts entries table more (partReader (drop at (bits t)))
-          (filledBy x table λ n. fill t (at + counts .width) entries n 0 n table)
-      go (Held n) q e =
+          → partReader (drop at (bits t)) ≡ entryThen (drop (at + counts .width) (bits t)) after x
+          → PartRead t at counts (e .width) limit i table more (partReader (drop at (bits t)))
+          (filledBy x table λ n. fill e n (at + counts .width) 0 i n table)
+      go (Held n) q g =
           let within = entry-within t at counts q in
-          part-filled (partReader (drop at (bits t))) n (within .0) (within .1) e (fill-reads t entries r n h b (at + counts .width) 0 n table)
-      go (Refused n) q e = broken n table (entry-numbered t at counts c q) e
+          part-filled (partReader (drop at (bits t))) n (within .0) (within .1) (g ∙ goes n _)
+          (fill-reads t e limit r h n (at + counts .width) 0 i n table)
+      go (Refused n) q g = broken n table (entry-numbered t at counts c q) g
 
 -- zeros after a list: a table of zeros in which the list was written
 
-drop-zeros : (k n : ℕ) → k ≤ n → drop {A = ℕ} k (replicate n 0) ≡ replicate (n - k) 0
+pub drop-zeros : (k n : ℕ) → k ≤ n → drop {A = ℕ} k (replicate n 0) ≡ replicate (n - k) 0
 drop-zeros zero n h = rw (sub-zero n)
 drop-zeros (suc k) zero h = absurd (not-suc-le-zero h)
 drop-zeros (suc k) (suc n) h = rw (suc-sub-suc n k) (drop-zeros k n (omega arith))
 
-sets-zeros : (n : ℕ) (vs : List ℕ) → length vs ≤ n → sets (replicate n 0) 0 vs ≡ padTo n vs
+pub sets-zeros : (n : ℕ) (vs : List ℕ) → length vs ≤ n → sets (replicate n 0) 0 vs ≡ padTo n vs
 unfolding padTo
 sets-zeros n vs h =
     let len = length-replicate {A = ℕ} n 0 in
@@ -130,33 +138,56 @@ sets-zeros n vs h =
     ∙ ap (λ (l : List ℕ). vs ++ l) (drop-zeros (length vs) n h)
 
 -- A part that was read into a table of `size` zeros: its reader has the count and the entries, and goes on after the part.
-pub record Got {A : Type 0} (t : List ℕ) (at : ℕ) (counts entries : Row) (size : ℕ) (more : ℕ → List ℕ → Reader A) (l : Read A)
+pub record Got {A : Type 0} (t : List ℕ) (at : ℕ) (counts : Row) (width limit size : ℕ) (more : ℕ → List ℕ → Reader A) (l : Read A)
     (p : Part) (table : List ℕ) : Type 0 where
   pub values : List ℕ
   pub least : counts .least ≤ p .count
   pub below : p .count < counts .limit
   pub long : length values ≡ p .count
-  pub next : p .next ≡ at + counts .width + p .count * entries .width
+  pub small : Below limit values
+  pub next : p .next ≡ at + counts .width + p .count * width
   pub held : table ≡ padTo size values
   pub goes : l ≡ more (p .count) values (drop (p .next) (bits t))
 
-module _ {A : Type 0} (t : List ℕ) (at : ℕ) (counts entries : Row) (size : ℕ) (more : ℕ → List ℕ → Reader A) (l : Read A) where
-  pub part-got : {f : Filled} {p : Part} {table : List ℕ} → counts .limit ≤ size + 1 → PartRead t at counts entries (replicate size 0) more l f
-      → p ≡ f .part → table ≡ f .table → p .number ≡ 0 → Got t at counts entries size more l p table
-  part-got {p = p} {table = table} h (whole count next vs least below len pos e) q s z =
-      subst₂ (λ (x : Part) (y : List ℕ). Got t at counts entries size more l x y) (sym q) (sym s)
+module _ {A : Type 0} (t : List ℕ) (at : ℕ) (counts : Row) (width limit size : ℕ) (more : ℕ → List ℕ → Reader A) (l : Read A) where
+  pub part-got : {f : Filled} {p : Part} {table : List ℕ} → counts .limit ≤ size + 1
+      → PartRead t at counts width limit 0 (replicate size 0) more l f
+      → p ≡ f .part → table ≡ f .table → p .number ≡ 0 → Got t at counts width limit size more l p table
+  part-got {p = p} {table = table} h (whole count next vs least below len small pos e) q s z =
+      subst₂ (λ (x : Part) (y : List ℕ). Got t at counts width limit size more l x y) (sym q) (sym s)
       (record {
         values = vs;
         least = least;
         below = below;
         long = len;
+        small = small;
         next = pos;
         held = sets-zeros size vs (omega arith);
         goes = e;
       })
   part-got h (broken n left b e) q s z = let m = ap (λ (x : Part). x .number) q in absurd (omega (arith, m, b, z))
 
-  pub part-stop : {f : Filled} {p : Part} → PartRead t at counts entries (replicate size 0) more l f → p ≡ f .part → (p .number ≡ 0 → ⊥)
+  pub part-stop : {f : Filled} {p : Part} → PartRead t at counts width limit 0 (replicate size 0) more l f → p ≡ f .part → (p .number ≡ 0 → ⊥)
       → l ≡ stop (p .number)
-  part-stop (whole count next vs least below len pos e) q z = absurd (z (ap (λ (x : Part). x .number) q))
+  part-stop (whole count next vs least below len small pos e) q z = absurd (z (ap (λ (x : Part). x .number) q))
   part-stop (broken n left b e) q z = e ∙ ap stop (sym (ap (λ (x : Part). x .number) q))
+
+-- as many entries of the table as the count says: they are there, and are those that the reader has
+module _ {A : Type 0} {t : List ℕ} {at : ℕ} {counts : Row} {width limit size : ℕ} {more : ℕ → List ℕ → Reader A} {l : Read A} {p : Part}
+    {table : List ℕ} (g : Got t at counts width limit size more l p table) where
+  pub got-room : p .count ≤ length table
+  unfolding padTo
+  got-room =
+      let e = ap length (g .held) ∙ length-append (g .values) _ in
+      let long = g .long in
+      omega (arith, e, long)
+
+  pub got-lent : take (p .count) table ≡ g .values
+  unfolding padTo
+  got-lent = rw (g .held, ← g .long) (take-append-seam (g .values) _)
+
+  pub got-counted : p .count ≡ length (take (p .count) table)
+  got-counted = sym (ap length got-lent ∙ g .long)
+
+  pub got-small : Below limit (take (p .count) table)
+  got-small = subst (λ (x : List ℕ). Below limit x) (sym got-lent) (g .small)

@@ -1,25 +1,27 @@
--- A ticket part by part: disks and slots, blocks and their disks, references, the closing bits. Assumes nothing.
-use mathlib.Core.Path.{_≡_, sym, ap, _∙_}
-use mathlib.Core.Bool.{Bool, true, false, _||_}
+-- A ticket part by part: disks and slots, blocks and their disks, references, the blocks carried in and the closing bits. Assumes nothing.
+use mathlib.Core.Path.{_≡_, refl, sym, ap, ap₂, _∙_}
+use mathlib.Core.Bool.{Bool, _||_}
 use mathlib.Core.List.{List}
-use Prim.Native.Nat.{ℕ, _≤_}
+use Prim.Native.Nat.{ℕ}
 use native.Mathlib.Omega.{arith}
 use lib.Dec.{ltb, leb, eqb, lit<, lit≤}
-use lib.ListN.{drop, replicate}
-use borrow.Author.Tests.{lt-ltb, le-ltb, ltb-true, eq-eqb, eqb-true}
+use lib.ListN.{take, drop, replicate}
+use borrow.Author.Tests.{lt-ltb, ltb-true, eq-eqb, eqb-true}
 use Rattle.bits.specs.Bits.{bits}
-use Rattle.bits.specs.Reading.{Read, stop, Reader, _>>=_, _>>_, give, field, refuseIf, many, isClosed, closing, answer, readAll}
-use Rattle.bits.proofs.Reading.{then-ok, then-stop, closing-open, closing-closed, readAll-ok}
+use Rattle.bits.specs.Reading.{stop, Reader, _>>=_, _>>_, give, field, refuseIf, many, answer, readAll}
+use Rattle.bits.proofs.Reading.{readAll-ok}
 use Rattle.bits.proofs.Logic.{same-test}
 use Rattle.model.specs.Job.{Job}
 use Rattle.model.specs.Ticket.{slotsField, diskField, refField, ticketReader, ticketOf}
 use Rattle.job.specs.Meaning.{stored}
 use Rattle.ticket.specs.Meaning.{noTicket, answerOf, ticketRead}
-use Rattle.ticket.specs.Parts.{disksRow, slotsRow, blocksRow, diskRow, refsRow, refRow, Filled, partAt}
+use Rattle.ticket.specs.Parts.{disksRow, slotsRow, blocksRow, diskRow, refsRow, refRow, ofRow, Filled, partAt}
+use Rattle.ticket.specs.Carried.{Carried, endNumber}
 use Rattle.ticket.specs.declared.Row.{Row}
 use Rattle.ticket.specs.declared.Part.{Part}
-use Rattle.ticket.proofs.Entries.{entry-reads}
-use Rattle.ticket.proofs.Parts.{Reads, PartRead, part-reads, Got, part-got, part-stop}
+use Rattle.ticket.proofs.Entries.{entry-reads, any-test}
+use Rattle.ticket.proofs.Parts.{Reads, row-reads, PartRead, part-reads, Got, part-got, part-stop, got-lent}
+use Rattle.ticket.proofs.Ending.{endReader, endPart, end-stop, end-got}
 
 -- the tests of the readers are those of the rows
 
@@ -30,25 +32,22 @@ some-test k v =
     (λ e. (let z = eqb-true v 0 e in lt-ltb v 1 (omega (arith, z))))
     (λ e. (let z = ltb-true v 1 e in eq-eqb v 0 (omega (arith, z)))))
 
-any-test : (k v : ℕ) → leb k v ≡ ltb v 0 || leb k v
-any-test k v = rw (le-ltb v 0 (omega arith))
-
-slots-reads : (t : List ℕ) → Reads t slotsRow slotsField
+slots-reads : (t : List ℕ) → Reads t (ofRow t slotsRow) 65 (λ k least. many k slotsField)
 unfolding slotsField
-slots-reads t = record { reads = λ at. entry-reads t at slotsRow (λ v. eqb v 0 || ltb 64 v) give (lit< tt) (some-test 65) }
+slots-reads t = row-reads t slotsRow slotsField (lit≤ tt) λ at. entry-reads t at slotsRow (λ v. eqb v 0 || ltb 64 v) give (lit< tt) (some-test 65)
 
-disk-reads : (t : List ℕ) (d : ℕ) → Reads t (diskRow d) (diskField d)
+disk-reads : (t : List ℕ) (d : ℕ) → Reads t (ofRow t (diskRow d)) d (λ k least. many k (diskField d))
 unfolding diskField
-disk-reads t d = record { reads = λ at. entry-reads t at (diskRow d) (λ v. leb d v) give (lit< tt) (any-test d) }
+disk-reads t d = row-reads t (diskRow d) (diskField d) (lit≤ tt) λ at. entry-reads t at (diskRow d) (λ v. leb d v) give (lit< tt) (any-test d)
 
-ref-reads : (t : List ℕ) (b : ℕ) → Reads t (refRow b) (refField b)
+ref-reads : (t : List ℕ) (b : ℕ) → Reads t (ofRow t (refRow b)) b (λ k least. many k (refField b))
 unfolding refField
-ref-reads t b = record { reads = λ at. entry-reads t at (refRow b) (λ v. leb b v) give (lit< tt) (any-test b) }
+ref-reads t b = row-reads t (refRow b) (refField b) (lit≤ tt) λ at. entry-reads t at (refRow b) (λ v. leb b v) give (lit< tt) (any-test b)
 
 -- what is read after each part
 
 abbrev pub afterRefs : List ℕ → List ℕ → ℕ → List ℕ → Reader Job
-afterRefs slots disks n refs = closing 8 >> give (record { slots = slots; blockDisks = disks; refs = refs })
+afterRefs slots disks n refs = endReader slots disks refs
 
 abbrev pub afterDisks : List ℕ → ℕ → List ℕ → Reader Job
 afterDisks slots b disks = field 1 12 >>= λ n. refuseIf 6 (ltb 2048 n) >> (many n (refField b) >>= λ refs. afterRefs slots disks n refs)
@@ -56,52 +55,49 @@ afterDisks slots b disks = field 1 12 >>= λ n. refuseIf 6 (ltb 2048 n) >> (many
 abbrev pub afterSlots : ℕ → List ℕ → Reader Job
 afterSlots d slots = field 1 10 >>= λ b. refuseIf 4 (eqb b 0 || ltb 512 b) >> (many b (diskField d) >>= λ disks. afterDisks slots b disks)
 
-stop-same : {A : Type 0} {m n : ℕ} → _≡_ {A = Read A} (stop m) (stop n) → m ≡ n
-stop-same e = cc
-
 -- the three parts, each read into a table of zeros
 
 abbrev pub slotsPart : List ℕ → Filled
-slotsPart t = partAt t 0 disksRow slotsRow (replicate 8 0)
+slotsPart t = partAt t 0 disksRow (ofRow t slotsRow) 0 (replicate 8 0)
 
 abbrev pub disksPart : List ℕ → ℕ → Row → Filled
-disksPart t at row = partAt t at blocksRow row (replicate 512 0)
+disksPart t at row = partAt t at blocksRow (ofRow t row) 0 (replicate 512 0)
 
 abbrev pub refsPart : List ℕ → ℕ → Row → Filled
-refsPart t at row = partAt t at refsRow row (replicate 2048 0)
+refsPart t at row = partAt t at refsRow (ofRow t row) 0 (replicate 2048 0)
 
 module _ (t : List ℕ) where
-  slots-part : PartRead t 0 disksRow slotsRow (replicate 8 0) afterSlots (ticketReader (bits t)) (slotsPart t)
+  slots-part : PartRead t 0 disksRow 7 65 0 (replicate 8 0) afterSlots (ticketReader (bits t)) (slotsPart t)
   unfolding ticketReader
   slots-part =
-      part-reads t 0 disksRow slotsRow (replicate 8 0) (λ v. eqb v 0 || ltb 8 v) slotsField afterSlots (lit< tt) (some-test 9)
-      (lit≤ tt) (lit≤ tt) (slots-reads t)
+      part-reads t 0 disksRow (ofRow t slotsRow) 65 0 (replicate 8 0) (λ v. eqb v 0 || ltb 8 v) (λ k least. many k slotsField) afterSlots _
+      (lit< tt) (some-test 9) (lit≤ tt) (λ n l. refl) (slots-reads t)
 
   disks-part : (at d : ℕ) (slots : List ℕ)
-      → PartRead t at blocksRow (diskRow d) (replicate 512 0) (afterDisks slots) (afterSlots d slots (drop at (bits t)))
-      (disksPart t at (diskRow d))
+      → PartRead t at blocksRow 3 d 0 (replicate 512 0) (afterDisks slots) (afterSlots d slots (drop at (bits t))) (disksPart t at (diskRow d))
   disks-part at d slots =
-      part-reads t at blocksRow (diskRow d) (replicate 512 0) (λ v. eqb v 0 || ltb 512 v) (diskField d) (afterDisks slots) (lit< tt) (some-test 513)
-      (lit≤ tt) (lit≤ tt) (disk-reads t d)
+      part-reads t at blocksRow (ofRow t (diskRow d)) d 0 (replicate 512 0) (λ v. eqb v 0 || ltb 512 v)
+      (λ k least. many k (diskField d)) (afterDisks slots) _
+      (lit< tt) (some-test 513) (lit≤ tt) (λ n l. refl) (disk-reads t d)
 
   refs-part : (at b : ℕ) (slots disks : List ℕ)
-      → PartRead t at refsRow (refRow b) (replicate 2048 0) (afterRefs slots disks) (afterDisks slots b disks (drop at (bits t)))
+      → PartRead t at refsRow 9 b 0 (replicate 2048 0) (afterRefs slots disks) (afterDisks slots b disks (drop at (bits t)))
       (refsPart t at (refRow b))
   refs-part at b slots disks =
-      part-reads t at refsRow (refRow b) (replicate 2048 0) (λ v. ltb 2048 v) (refField b) (afterRefs slots disks) (lit< tt) (any-test 2049)
-      (lit≤ tt) (lit≤ tt) (ref-reads t b)
+      part-reads t at refsRow (ofRow t (refRow b)) b 0 (replicate 2048 0) (λ v. ltb 2048 v) (λ k least. many k (refField b)) (afterRefs slots disks) _
+      (lit< tt) (any-test 2049) (lit≤ tt) (λ n l. refl) (ref-reads t b)
 
   -- each part, read
   abbrev pub Slots : Part → List ℕ → Type 0
-  Slots p slots = Got t 0 disksRow slotsRow 8 afterSlots (ticketReader (bits t)) p slots
+  Slots p slots = Got t 0 disksRow 7 65 8 afterSlots (ticketReader (bits t)) p slots
 
   abbrev pub Disks : Part → List ℕ → Part → List ℕ → Type 0
   Disks p values q disk =
-      Got t (p .next) blocksRow (diskRow (p .count)) 512 (afterDisks values) (afterSlots (p .count) values (drop (p .next) (bits t))) q disk
+      Got t (p .next) blocksRow 3 (p .count) 512 (afterDisks values) (afterSlots (p .count) values (drop (p .next) (bits t))) q disk
 
   abbrev pub Refs : List ℕ → Part → List ℕ → Part → List ℕ → Type 0
   Refs slots q values r refs =
-      Got t (q .next) refsRow (refRow (q .count)) 2048 (afterRefs slots values) (afterDisks slots (q .count) values (drop (q .next) (bits t))) r refs
+      Got t (q .next) refsRow 9 (q .count) 2048 (afterRefs slots values) (afterDisks slots (q .count) values (drop (q .next) (bits t))) r refs
 
   -- a refusal by the reader
   stopped : (n : ℕ) → ticketReader (bits t) ≡ stop n → ticketRead t ≡ noTicket n
@@ -110,16 +106,16 @@ module _ (t : List ℕ) where
 
   pub slots-got : {p : Part} {slots : List ℕ} → p ≡ slotsPart t .part → slots ≡ slotsPart t .table
       → p .number ≡ 0 → Slots p slots
-  slots-got q s z = part-got t 0 disksRow slotsRow 8 afterSlots (ticketReader (bits t)) (lit≤ tt) slots-part q s z
+  slots-got q s z = part-got t 0 disksRow 7 65 8 afterSlots (ticketReader (bits t)) (lit≤ tt) slots-part q s z
 
   pub slots-refused : {p : Part} → p ≡ slotsPart t .part → (p .number ≡ 0 → ⊥) → ticketRead t ≡ noTicket (p .number)
-  slots-refused {p} q z = stopped (p .number) (part-stop t 0 disksRow slotsRow 8 afterSlots (ticketReader (bits t)) slots-part q z)
+  slots-refused {p} q z = stopped (p .number) (part-stop t 0 disksRow 7 65 8 afterSlots (ticketReader (bits t)) slots-part q z)
 
   module _ (p : Part) (slots : List ℕ) (a : Slots p slots) (row : Row) (is : row ≡ diskRow (p .count)) where
     pub disks-got : {q : Part} {disk : List ℕ} → q ≡ disksPart t (p .next) row .part
         → disk ≡ disksPart t (p .next) row .table → q .number ≡ 0 → Disks p (a .values) q disk
     disks-got e s z =
-        part-got t (p .next) blocksRow (diskRow (p .count)) 512 (afterDisks (a .values)) _ (lit≤ tt) (disks-part (p .next) (p .count) (a .values))
+        part-got t (p .next) blocksRow 3 (p .count) 512 (afterDisks (a .values)) _ (lit≤ tt) (disks-part (p .next) (p .count) (a .values))
         (e ∙ ap (λ (x : Row). disksPart t (p .next) x .part) is)
         (s ∙ ap (λ (x : Row). disksPart t (p .next) x .table) is) z
 
@@ -127,7 +123,7 @@ module _ (t : List ℕ) where
     disks-refused {q} e z =
         stopped (q .number)
         (a .goes
-        ∙ part-stop t (p .next) blocksRow (diskRow (p .count)) 512 (afterDisks (a .values)) _ (disks-part (p .next) (p .count) (a .values))
+        ∙ part-stop t (p .next) blocksRow 3 (p .count) 512 (afterDisks (a .values)) _ (disks-part (p .next) (p .count) (a .values))
         (e ∙ ap (λ (x : Row). disksPart t (p .next) x .part) is) z)
 
   module _ (p : Part) (slots : List ℕ) (a : Slots p slots) (q : Part) (disk : List ℕ) (b : Disks p (a .values) q disk)
@@ -135,7 +131,7 @@ module _ (t : List ℕ) where
     pub refs-got : {r : Part} {refs : List ℕ} → r ≡ refsPart t (q .next) row .part
         → refs ≡ refsPart t (q .next) row .table → r .number ≡ 0 → Refs (a .values) q (b .values) r refs
     refs-got e s z =
-        part-got t (q .next) refsRow (refRow (q .count)) 2048 (afterRefs (a .values) (b .values)) _ (lit≤ tt)
+        part-got t (q .next) refsRow 9 (q .count) 2048 (afterRefs (a .values) (b .values)) _ (lit≤ tt)
         (refs-part (q .next) (q .count) (a .values) (b .values))
         (e ∙ ap (λ (x : Row). refsPart t (q .next) x .part) is)
         (s ∙ ap (λ (x : Row). refsPart t (q .next) x .table) is) z
@@ -144,7 +140,7 @@ module _ (t : List ℕ) where
     refs-refused {r} e z =
         stopped (r .number)
         (a .goes ∙ b .goes
-        ∙ part-stop t (q .next) refsRow (refRow (q .count)) 2048 (afterRefs (a .values) (b .values)) _
+        ∙ part-stop t (q .next) refsRow 9 (q .count) 2048 (afterRefs (a .values) (b .values)) _
         (refs-part (q .next) (q .count) (a .values) (b .values))
         (e ∙ ap (λ (x : Row). refsPart t (q .next) x .part) is) z)
 
@@ -153,16 +149,44 @@ module _ (t : List ℕ) where
     ends : ticketReader (bits t) ≡ afterRefs (a .values) (b .values) (r .count) (c .values) (drop (r .next) (bits t))
     ends = a .goes ∙ b .goes ∙ c .goes
 
-    pub open-refused : isClosed (drop (r .next) (bits t)) ≡ false → ticketRead t ≡ noTicket 8
-    open-refused e = stopped 8 (ends ∙ then-stop (closing 8) _ _ (closing-open 8 (drop (r .next) (bits t)) e))
+    -- what is read of the lent slots and disks
+    lent-part : endPart t (take (p .count) slots) (take (q .count) disk) (r .next) ≡ endPart t (a .values) (b .values) (r .next)
+    lent-part = ap₂ (λ (x y : List ℕ). endPart t x y (r .next)) (got-lent a) (got-lent b)
 
-    pub accepted : isClosed (drop (r .next) (bits t)) ≡ true → ticketRead t ≡ record {
-      number = 0;
-      job = record { disks = p .count; slots = slots; blocks = q .count; disk = disk; count = r .count; refs = refs };
-    }
-    unfolding ticketRead answerOf ticketOf stored give
-    accepted e =
-        ap answerOf (readAll-ok ticketReader t (ends ∙ then-ok (closing 8) _ _ (closing-closed 8 (drop (r .next) (bits t)) e)))
+    pub end-refused : {n : ℕ} → n ≡ endNumber t (endPart t (take (p .count) slots) (take (q .count) disk) (r .next) .part) → (n ≡ 0 → ⊥)
+        → ticketRead t ≡ noTicket n
+    end-refused {n} e z =
+        stopped n
+        (ends ∙ end-stop t (a .values) (b .values) (c .values) (r .next) (a .small) (e ∙ ap (λ (x : Carried). endNumber t (x .part)) lent-part) z)
+
+    pub accepted : {n : ℕ} {held carried : List ℕ} → n ≡ endNumber t (endPart t (take (p .count) slots) (take (q .count) disk) (r .next) .part)
+        → held ≡ endPart t (take (p .count) slots) (take (q .count) disk) (r .next) .held
+        → carried ≡ endPart t (take (p .count) slots) (take (q .count) disk) (r .next) .table → n ≡ 0
+        → ticketRead t ≡ record {
+          number = 0;
+          job = record {
+            disks = p .count;
+            slots = slots;
+            blocks = q .count;
+            disk = disk;
+            count = r .count;
+            refs = refs;
+            held = held;
+            carried = carried;
+          };
+        }
+    unfolding ticketRead answerOf ticketOf stored
+    accepted e h s z =
+        let d = a .long in
+        let least = a .below in
+        let k = b .long in
+        let most = b .below in
+        let end =
+        end-got t (a .values) (b .values) (c .values) (r .next) (a .small) (omega (arith, d, least)) (omega (arith, k, most))
+        (e ∙ ap (λ (x : Carried). endNumber t (x .part)) lent-part) (h ∙ ap (λ (x : Carried). x .held) lent-part)
+        (s ∙ ap (λ (x : Carried). x .table) lent-part) z
+        in
+        ap answerOf (readAll-ok ticketReader t (ends ∙ end .gives))
         ∙ (λ i. record {
           number = 0;
           job = record {
@@ -172,5 +196,7 @@ module _ (t : List ℕ) where
             disk = sym (b .held) i;
             count = c .long i;
             refs = sym (c .held) i;
+            held = sym (end .counts) i;
+            carried = sym (end .rows) i;
           };
         })

@@ -11,7 +11,7 @@ use Rattle.ticket.specs.declared.Ticket.{Ticket}
 
 -- A job by value where there is none: every count and entry is 0.
 abbrev pub noJob : Job
-noJob = record { slots = []; blockDisks = []; refs = [] }
+noJob = record { slots = []; blockDisks = []; refs = []; carried = [] }
 
 -- A ticket that is refused with n.
 unfoldable pub noTicket : ℕ → Ticket

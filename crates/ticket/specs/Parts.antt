@@ -51,6 +51,15 @@ unfoldable pub entryThen : {A : Type 0} → List ℕ → (ℕ → Reader A) → 
 entryThen rest more (Held v) = more v rest
 entryThen rest more (Refused n) = stop n
 
+-- The entries of a part: the bits of each, and what the one at the bit `at` gives; `least` is 1 above the value before it, 0 where there is none.
+pub record Entries : Type 0 where
+  pub width : ℕ
+  pub entry : (at least : ℕ) → Entry
+
+-- The entries of a row, whatever the value before.
+abbrev pub ofRow : List ℕ → Row → Entries
+ofRow t row = record { width = row .width; entry = λ at least. entryAt t at row }
+
 -- A part that was read, and the table that its entries are written into.
 pub record Filled : Type 0 where
   pub part : Part
@@ -64,13 +73,13 @@ unfoldable pub filledBy : Entry → List ℕ → (ℕ → Filled) → Filled
 filledBy (Held v) table more = more v
 filledBy (Refused n) table more = record { part = noPart n; table = table }
 
--- k entries of a row, from the bit `at` on, each written after the one before it, the first at i; of a part of `count` entries.
-unfoldable pub fill : List ℕ → ℕ → Row → ℕ → ℕ → ℕ → List ℕ → Filled
+-- k entries from the bit `at` on, each written after the one before it, the first at i; of a part of `count` entries.
+unfoldable pub fill : Entries → (count at least i k : ℕ) → List ℕ → Filled
 unfolding filledBy
-fill t at row count i zero table = record { part = record { number = 0; count = count; next = at }; table = table }
-fill t at row count i (suc k) table = filledBy (entryAt t at row) table λ v. fill t (at + row .width) row count (suc i) k (set table i v)
+fill e count at least i zero table = record { part = record { number = 0; count = count; next = at }; table = table }
+fill e count at least i (suc k) table = filledBy (e .entry at least) table λ v. fill e count (at + e .width) (suc v) (suc i) k (set table i v)
 
--- A part from the bit `at` on: a count of the row `counts`, and as many entries of the row `entries`.
-unfoldable pub partAt : List ℕ → ℕ → Row → Row → List ℕ → Filled
+-- A part from the bit `at` on: a count of the row `counts`, and as many entries, the first written at i.
+unfoldable pub partAt : List ℕ → ℕ → Row → Entries → ℕ → List ℕ → Filled
 unfolding filledBy fill
-partAt t at counts entries table = filledBy (entryAt t at counts) table λ n. fill t (at + counts .width) entries n 0 n table
+partAt t at counts e i table = filledBy (entryAt t at counts) table λ n. fill e n (at + counts .width) 0 i n table

@@ -7,10 +7,10 @@ use bits::read::field;
 ghost use mathlib.Core.Path.{_≡_};
 ghost use Prim.Native.Nat.{_+_, _^_, _≤_, _<_};
 ghost use lib.ListN.{length};
-ghost use Rattle.ticket.specs.Parts.{entryAt, fill, partAt};
+ghost use Rattle.ticket.specs.Parts.{entryAt, ofRow, fill, partAt};
 
 // The field at the bit `at`, tested as its row says.
-fn checked(t: &[u8], at: usize, row: Row) -> Entry
+pub fn checked(t: &[u8], at: usize, row: Row) -> Entry
     requires { ⌜ row .width ≤ 12 ⌝ }
     requires { ⌜ at < 2 ^ 32 ⌝ }
     ensures { λ r. ⌜ r ≡ entryAt (now (t .entry)) at row ⌝ }
@@ -31,8 +31,8 @@ fn fill_table(t: &[u8], at: usize, row: Row, count: usize, table: &mut [u16]) ->
     requires { ⌜ at < 65536 ⌝ }
     requires { ⌜ count ≤ 2048 ⌝ }
     requires { ⌜ count ≤ length (now table) ⌝ }
-    ensures { λ r. ⌜ r ≡ fill (now (t .entry)) at row count 0 count (now (table .entry)) .part ⌝ }
-    ensures { λ r. ⌜ now (table .exit) ≡ fill (now (t .entry)) at row count 0 count (now (table .entry)) .table ⌝ }
+    ensures { λ r. ⌜ r ≡ fill (ofRow (now (t .entry)) row) count at 0 0 count (now (table .entry)) .part ⌝ }
+    ensures { λ r. ⌜ now (table .exit) ≡ fill (ofRow (now (t .entry)) row) count at 0 0 count (now (table .entry)) .table ⌝ }
 {
     let mut next = at;
     let mut i = 0;
@@ -65,8 +65,8 @@ pub fn table_part(t: &[u8], at: usize, counts: Row, entries: Row, table: &mut [u
     requires { ⌜ at < 65000 ⌝ }
     requires { ⌜ counts .limit ≤ 2049 ⌝ }
     requires { ⌜ counts .limit ≤ length (now table) + 1 ⌝ }
-    ensures { λ r. ⌜ r ≡ partAt (now (t .entry)) at counts entries (now (table .entry)) .part ⌝ }
-    ensures { λ r. ⌜ now (table .exit) ≡ partAt (now (t .entry)) at counts entries (now (table .entry)) .table ⌝ }
+    ensures { λ r. ⌜ r ≡ partAt (now (t .entry)) at counts (ofRow (now (t .entry)) entries) 0 (now (table .entry)) .part ⌝ }
+    ensures { λ r. ⌜ now (table .exit) ≡ partAt (now (t .entry)) at counts (ofRow (now (t .entry)) entries) 0 (now (table .entry)) .table ⌝ }
 {
     match checked(t, at, counts) {
         Entry::Value(count) => fill_table(t, at + counts.width, entries, count, table),

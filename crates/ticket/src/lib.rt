@@ -1,12 +1,18 @@
 // A ticket's bytes read, field by field, into a job by value; the number of a stop.
+mod carried;
 mod fields;
 
 use bits::read::closed;
+use carried::carried_part;
 use fields::table_part;
 use job::Job;
 ghost use mathlib.Core.Path.{_≡_};
+ghost use Prim.Native.Nat.{_≤_, _<_};
+ghost use lib.ListN.{length};
+ghost use Rattle.bits.specs.Bits.{Below};
 ghost use Rattle.ticket.specs.Meaning.{noTicket, ticketRead, stopNumber};
 ghost use Rattle.ticket.specs.Parts.{diskRow, refRow};
+ghost use Rattle.ticket.specs.Carried.{carriedAt, Ends};
 
 // What reading a ticket gives: 0 and its job, or the number with which the ticket is refused and an empty job.
 pub struct Ticket {
@@ -14,7 +20,8 @@ pub struct Ticket {
     pub job: Job,
 }
 
-// A row of document 01's table of ticket fields: its bits, its values, from `least` on and below `limit`, and the number that refuses others.
+// A row of document 01's table of ticket fields, or a field of document 02's L9: its bits, its values, from `least` on and below `limit`, and the
+// number that refuses others.
 pub struct Row {
     pub width: usize,
     pub least: usize,
@@ -29,7 +36,7 @@ pub enum Entry {
 }
 
 // What reading a part of a ticket gives. A part is a count and then that many entries. 0, the count and the bit after the part; or the number
-// that refuses it.
+// that refuses it. Of the blocks carried in on all disks, the count is that of the disks.
 pub struct Part {
     pub number: usize,
     pub count: usize,
@@ -99,6 +106,8 @@ fn refused(number: usize) -> Ticket
     let slots = [0u16; 8];
     let disk = [0u16; 512];
     let refs = [0u16; 2048];
+    let held = [0u8; 8];
+    let carried = [0u16; 512];
     let job = Job {
         disks: 0,
         slots,
@@ -106,8 +115,34 @@ fn refused(number: usize) -> Ticket
         disk,
         count: 0,
         refs,
+        held,
+        carried,
     };
     Ticket { number, job }
+}
+
+// The number of what follows the references, from the bit `at` on: the blocks carried in, and the closing bits. 0 where nothing is refused.
+fn end_number(
+    t: &[u8],
+    at: usize,
+    slots: &[u16],
+    disk: &[u16],
+    held: &mut [u8; 8],
+    carried: &mut [u16; 512],
+) -> usize
+    requires { ⌜ (at < 60000) × (length (now slots) ≤ 8) × Below 65 (now slots) × (length (now disk) ≤ 512) ⌝ }
+    ensures { λ r. ⌜ Ends (now (t .entry))
+        (carriedAt (now (t .entry)) (now (disk .entry)) at 0 (now (slots .entry)) (now (held .entry)) (now (carried .entry)))
+        r (now (held .exit)) (now (carried .exit)) ⌝ }
+{
+    let part = carried_part(t, at, slots, disk, held, carried);
+    if part.number != 0 {
+        return part.number;
+    }
+    if !closed(t, part.next) {
+        return 8;
+    }
+    0
 }
 
 // A ticket's job, or the number with which the ticket is refused.
@@ -129,8 +164,14 @@ pub fn read(t: &[u8]) -> Ticket
     if references.number != 0 {
         return refused(references.number);
     }
-    if !closed(t, references.next) {
-        return refused(8);
+    let mut held = [0u8; 8];
+    let mut carried = [0u16; 512];
+    let n = disks.count;
+    let b = blocks.count;
+    let at = references.next;
+    let end = end_number(t, at, &slots[..n], &disk[..b], &mut held, &mut carried);
+    if end != 0 {
+        return refused(end);
     }
     let job = Job {
         disks: disks.count,
@@ -139,6 +180,8 @@ pub fn read(t: &[u8]) -> Ticket
         disk,
         count: references.count,
         refs,
+        held,
+        carried,
     };
     Ticket { number: 0, job }
 }

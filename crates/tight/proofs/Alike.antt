@@ -2,12 +2,12 @@
 -- one state, and again from each of these on, are those in the other and an offset more. Assumes nothing.
 use mathlib.Core.Path.{_≡_, refl, ap, _∙_}
 use mathlib.Core.Bool.{Bool, cond, not, _&&_}
-use mathlib.Core.List.{List}
+use mathlib.Core.List.{List, []}
 use mathlib.Core.Option.{Option, none, some}
 use Prim.Native.Nat.{ℕ, zero, suc, _+_, _<_}
 use native.Mathlib.Omega.{arith}
 use lib.Dec.{ltb, leb, eqb}
-use lib.ListN.{length}
+use lib.ListN.{length, replicate}
 use borrow.Author.Tests.{leb-true, le-leb}
 use Rattle.bits.proofs.Logic.{by-test, same-test}
 use Rattle.model.specs.Job.{Job, diskOf}
@@ -61,9 +61,9 @@ best-same test test′ before before′ (suc n) h k =
     taken none l = refl
     taken (some c) l = rw (k n c (omega arith) (omega arith))
 
--- a job by its slots, the disks of its blocks and its references, and a state by its marks, its next read and its round
+-- a job by its slots, the disks of its blocks and its references, with nothing carried in, and a state by its marks, its next read and its round
 abbrev pub jobOn : List ℕ → List ℕ → List ℕ → Job
-jobOn slots disks refs = record { slots = slots; blockDisks = disks; refs = refs }
+jobOn slots disks refs = record { slots = slots; blockDisks = disks; refs = refs; carried = replicate (length slots) [] }
 
 abbrev pub at : List Bool → ℕ → ℕ → State
 at marks p r = record { resident = marks; next = p; round = r }

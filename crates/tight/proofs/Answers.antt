@@ -5,7 +5,7 @@ use mathlib.Core.List.{[], _∷_}
 use Rattle.model.proofs.Answers.{jobWaiting}
 use Rattle.tight.specs.Family.{family}
 
-one-disk : family 1 2 1 ≡ record { slots = 2 ∷ []; blockDisks = 0 ∷ 0 ∷ 0 ∷ 0 ∷ []; refs = 3 ∷ 0 ∷ 1 ∷ 0 ∷ 1 ∷ 2 ∷ 3 ∷ 2 ∷ [] }
+one-disk : family 1 2 1 ≡ record { slots = 2 ∷ []; blockDisks = 0 ∷ 0 ∷ 0 ∷ 0 ∷ []; refs = 3 ∷ 0 ∷ 1 ∷ 0 ∷ 1 ∷ 2 ∷ 3 ∷ 2 ∷ []; carried = [] ∷ [] }
 unfolding family
 one-disk = refl
 
@@ -13,6 +13,7 @@ four-disks : family 4 1 1 ≡ record {
   slots = 1 ∷ 1 ∷ 1 ∷ 1 ∷ [];
   blockDisks = 0 ∷ 0 ∷ 1 ∷ 1 ∷ 2 ∷ 2 ∷ 3 ∷ 3 ∷ [];
   refs = 1 ∷ 0 ∷ 3 ∷ 2 ∷ 5 ∷ 4 ∷ 7 ∷ 6 ∷ 0 ∷ 1 ∷ 2 ∷ 3 ∷ 4 ∷ 5 ∷ 6 ∷ 7 ∷ [];
+  carried = [] ∷ [] ∷ [] ∷ [] ∷ [];
 }
 unfolding family
 four-disks = refl

@@ -7,20 +7,21 @@ use Prim.Native.Nat.{ℕ, zero, suc, _+_, _-_, _*_, _≤_, _<_}
 use native.Mathlib.Omega.{arith}
 use native.Mathlib.Nat.{suc-mul, mul-comm, mul-assoc, mul-add, mul-le-mul-right}
 use lib.Dec.{ltb, leb}
-use lib.ListN.{length, getD, set, length-map}
+use lib.ListN.{length, getD, set, length-map, length-replicate}
 use borrow.Author.Tests.{ltb-false, leb-false}
 use Rattle.bits.specs.Bits.{pack}
 use Rattle.bits.specs.Reading.{given}
-use Rattle.bits.proofs.Logic.{each-at, at-each}
+use Rattle.bits.proofs.Logic.{each-at, at-each, getD-same}
 use Rattle.grammar.specs.Note.{repeated}
 use Rattle.grammar.proofs.Lists.{repeated-length, each-repeated}
-use Rattle.model.specs.Job.{Job, Sound, refCount}
+use Rattle.model.specs.Job.{Job, Sound, refCount, carriedOn}
 use Rattle.model.specs.Ticket.{ticketBits}
 use Rattle.model.specs.Playing.{State, noneResident, start, load, count}
 use Rattle.model.specs.Rules.{distance, action, Rule, short, sparing}
 use Rattle.model.specs.Plans.{planFrom, planOf, scheduleOf}
 use Rattle.model.specs.Calls.{jobUpTo, shortCounts, sparingCounts}
 use Rattle.model.proofs.Counting.{count-none}
+use Rattle.model.proofs.Carried.{start-empty}
 use Rattle.model.proofs.Stop.{sound-job}
 use Rattle.model.proofs.Promises.{plans-charged}
 use Rattle.tight.specs.Family.{sequence, family}
@@ -53,7 +54,15 @@ repeated-sound slots disks period n some few slot slots-few block blocks-few on 
   fewRefs = (let e = repeated-length n period in omega (arith, e, n-few));
   toBlocks = λ i l. each-at (λ b. b < length disks) (repeated n period)
       (each-repeated (λ b. b < length disks) n period (at-each (λ b. b < length disks) period 0 (λ k m. leb-false (length disks) (getD period k 0) (count-none _ (length period) to k m)))) i 0 l;
+  oneList = length-replicate {A = List ℕ} (length slots) [];
+  fewCarried = λ d l. (let z = none d in omega (arith, z));
+  rising = λ d i l p. absurd (let z = none d in omega (arith, z, p));
+  ofBlocks = λ d i l p. absurd (let z = none d in omega (arith, z, p));
+  onOwnDisk = λ d i l p. absurd (let z = none d in omega (arith, z, p));
 }
+  where
+    none : (d : ℕ) → length (carriedOn (jobOn slots disks (repeated n period)) d) ≡ 0
+    none d = ap length (getD-same {A = List ℕ} (length slots) d [])
 
 -- no block is resident, and nothing is read
 abbrev nothing : State
@@ -62,13 +71,15 @@ nothing = at noneResident 0 0
 -- the rounds of the plan of a job that repeats itself
 many : (rule : Rule) (local : Local rule) (slots disks period : List ℕ) (each rounds : ℕ) → Returns rule local slots disks period 4 nothing each rounds → (m : ℕ)
     → rounds + m * each ≤ (4 + m) * length period → length (scheduleOf rule (jobOn slots disks (repeated (4 + m) period))) ≡ rounds + m * each
-unfolding scheduleOf planOf start
+unfolding scheduleOf planOf
 many rule local slots disks period each rounds returns m few =
     let refs = repeated (4 + m) period in
     let j = jobOn slots disks refs in
     let n = repeated-length (4 + m) period in
     let e : length refs ≡ rounds + m * each + (length refs - (rounds + m * each)) = omega (arith, few, n) in
-    length-map (planFrom rule j (length refs) nothing) (map action) ∙ ap (λ (most : ℕ). length (planFrom rule j most nothing)) e
+    let empty : start j ≡ nothing = start-empty j (λ d. ap length (getD-same {A = List ℕ} (length slots) d [])) in
+    length-map (planFrom rule j (length refs) (start j)) (map action)
+    ∙ ap (λ (s : State). length (planFrom rule j (length refs) s)) empty ∙ ap (λ (most : ℕ). length (planFrom rule j most nothing)) e
     ∙ rounds-repeated rule local slots disks period 4 nothing each rounds returns m (length refs - (rounds + m * each))
 
 -- Two disks with two slots each: sixteen references to eight blocks, repeated.

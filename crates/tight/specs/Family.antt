@@ -41,7 +41,12 @@ unfoldable pub sequence : ℕ → ℕ → List ℕ
 unfolding alpha beta gamma delta eachDisk
 sequence d m = eachDisk (λ i. alpha m i ++ beta m i) d ++ eachDisk (λ i. gamma m i ++ delta m i) d
 
--- The job of n repetitions, on d disks with m slots each.
+-- The job of n repetitions, on d disks with m slots each, with empty buffers at the start.
 unfoldable pub family : ℕ → ℕ → ℕ → Job
 unfolding sequence eachDisk repeated
-family d m n = record { slots = replicate d m; blockDisks = eachDisk (λ i. replicate (2 * m) i) d; refs = repeated n (sequence d m) }
+family d m n = record {
+  slots = replicate d m;
+  blockDisks = eachDisk (λ i. replicate (2 * m) i) d;
+  refs = repeated n (sequence d m);
+  carried = replicate d [];
+}

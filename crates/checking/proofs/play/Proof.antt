@@ -2,12 +2,13 @@
 -- are the rounds, the disks and the references that are left. Assumes nothing.
 use mathlib.Core.Path.{_≡_, sym, ap, _∙_}
 use mathlib.Core.Logic.{⊎-elim}
-use Prim.Native.Nat.{_-_, _<_}
+use Prim.Native.Nat.{_-_, _<_, _^_}
 use native.Mathlib.Omega.{arith}
 use borrow.Author.Tests.{not-true, not-false}
 use lib.ListN.{getD}
 use denote.Ref.{now}
 use Rattle.playing.specs.Playing.{consumeOne}
+use Rattle.playing.proofs.Started.{carrying-asks, reading-asks, started}
 use Rattle.checking.specs.Checking.{checkedOf}
 use Rattle.checking.proofs.Rounds as step
 use Rattle.checking.proofs.Rounds.{actionHere, BeforeRound, BeforeDisk, AtReading}
@@ -32,14 +33,20 @@ Inv-rounds sheet rounds job b₀ fetches₀ at₀ k₀ charged₀ b fetches at k
 abbrev μ-rounds : tie.MeasureT-rounds
 μ-rounds sheet rounds job b₀ fetches₀ at₀ k₀ charged₀ b fetches at k charged = rounds - k
 
-empty-requires : tie.Need-empty-requires Inv-loop μ-loop Inv-loop2 μ-loop2 Inv-rounds μ-rounds
-empty-requires c κs = tt
+carrying-requires : tie.Need-carrying-requires Inv-loop μ-loop Inv-loop2 μ-loop2 Inv-rounds μ-rounds
+carrying-requires c κs = let s = c .before .before .before .before in carrying-asks (s .args .t1) (s .pre .0) _ (omega arith)
+
+read-on-requires : tie.Need-read-on-requires Inv-loop μ-loop Inv-loop2 μ-loop2 Inv-rounds μ-rounds
+read-on-requires c κs = let s = c .before .before .before .before .before .before .before in reading-asks (s .args .t1) (s .pre .0) _ (omega arith)
+
+-- the way back from where the blocks carried in are read to the entry of the function
+abbrev begin : tie.After-read-on Inv-loop μ-loop Inv-loop2 μ-loop2 Inv-rounds μ-rounds → tie.Start Inv-loop μ-loop Inv-loop2 μ-loop2 Inv-rounds μ-rounds
+begin c = c .before .before .before .before .before .before .before .before
 
 rounds-holds : tie.Need-rounds-holds Inv-loop μ-loop Inv-loop2 μ-loop2 Inv-rounds μ-rounds
-rounds-holds c = step.round-same (c .empty .ensures) (step.round-first (c .before .before .pre .0))
-
-loop-holds : tie.Need-loop-holds Inv-loop μ-loop Inv-loop2 μ-loop2 Inv-rounds μ-rounds
-loop-holds c = step.disk-first (c .before .before .before .before .pre .0) (c .before .rounds .inv) (c .rounds-test .taken)
+rounds-holds c =
+    let s = begin c in
+    step.round-same (started (s .args .t1) (s .pre .0) (c .before .before .before .carrying .ensures) (c .read-on .ensures)) (step.round-first (s .pre .0))
 
 -- the way back from a place: to the turn of a disk, and to the entry of the function
 abbrev turn : tie.After-action Inv-loop μ-loop Inv-loop2 μ-loop2 Inv-rounds μ-rounds
@@ -48,16 +55,27 @@ turn c = c .before .before .before .before .before .before .before
 
 abbrev entry : tie.In-rounds Inv-loop μ-loop Inv-loop2 μ-loop2 Inv-rounds μ-rounds
     → tie.Start Inv-loop μ-loop Inv-loop2 μ-loop2 Inv-rounds μ-rounds
-entry c = c .before .before .before .before
+entry c = begin (c .before .before)
 
--- the disk of a turn is one of eight, and one more fetch fits
+loop-holds : tie.Need-loop-holds Inv-loop μ-loop Inv-loop2 μ-loop2 Inv-rounds μ-rounds
+loop-holds c = step.disk-first (entry c .pre .0) (c .before .rounds .inv) (c .rounds-test .taken)
+
+-- the disk of a turn is one of eight, its place in the sheet is small, and one more fetch fits
 disk-small : (c : tie.In-loop Inv-loop μ-loop Inv-loop2 μ-loop2 Inv-rounds μ-rounds) → c .before .loop .d < 8
-disk-small c = let n = c .before .before .before .before .before .before .pre .0 .fewDisks in let t = c .loop-test .taken in omega (arith, n, t)
+disk-small c = let n = entry (c .before .before) .pre .0 .fewDisks in let t = c .loop-test .taken in omega (arith, n, t)
+
+at-small : (c : tie.In-loop Inv-loop μ-loop Inv-loop2 μ-loop2 Inv-rounds μ-rounds) → c .before .loop .at < 2 ^ 30
+at-small c =
+    let n = entry (c .before .before) .pre .1 in
+    let p = c .before .loop .inv .bounded .near in
+    let d = disk-small c in
+    let k = c .before .before .rounds-test .taken in
+    omega (arith, n, p, d, k)
 
 fetches-fit : (c : tie.In-loop Inv-loop μ-loop Inv-loop2 μ-loop2 Inv-rounds μ-rounds) → let l = c .before .loop in
     getD (l .fetches) (l .d) 0 < 16384
 fetches-fit c =
-    let n = c .before .before .before .before .before .before .pre .1 in
+    let n = entry (c .before .before) .pre .1 in
     let d = disk-small c in
     let k = c .before .before .rounds-test .taken in
     let p = c .before .loop .inv .bounded .few (c .before .loop .d) in
@@ -80,11 +98,8 @@ cast-full c =
 
 action-requires : tie.Need-action-requires Inv-loop μ-loop Inv-loop2 μ-loop2 Inv-rounds μ-rounds
 action-requires c κs =
-    let n = c .before .before .before .before .before .before .before .before .before .before .before .before .pre in
-    let p = c .before .before .before .before .before .before .before .loop .inv .bounded .near in
-    let d = disk-small (c .before .before .before .before .before .before) in
-    let k = c .before .before .before .before .before .before .before .before .rounds-test .taken in
-    (omega (arith, n, p, d, k), n .0 .fewBlocks)
+    let t = c .before .before .before .before .before .before in
+    (at-small t, entry (t .before .before) .pre .0 .fewBlocks)
 
 -- the action that was read
 acted : (c : tie.After-action Inv-loop μ-loop Inv-loop2 μ-loop2 Inv-rounds μ-rounds) → let a = entry (turn c .before .before) .args in
@@ -108,7 +123,7 @@ fetch-requires c κs =
     step.fetch-fits (entry (t .before .before) .pre .0) (t .before .loop .inv) (t .loop-test .taken) read
 
 mul-fetches : tie.Need-mul-fetches Inv-loop μ-loop Inv-loop2 μ-loop2 Inv-rounds μ-rounds
-mul-fetches c = omega arith
+mul-fetches c = omega (arith, disk-small (c .before .before .before .before .before .before .before .before .before .before .before))
 
 array-read-fetches : tie.Need-array-read-fetches Inv-loop μ-loop Inv-loop2 μ-loop2 Inv-rounds μ-rounds
 array-read-fetches c = disk-small (c .before .before .before .before .before .before .before .before .before .before .before)
@@ -120,7 +135,7 @@ array-write-fetches : tie.Need-array-write-fetches Inv-loop μ-loop Inv-loop2 μ
 array-write-fetches c = disk-small (c .before .before .before .before .before .before .before .before .before .before .before)
 
 add-at-2 : tie.Need-add-at-2 Inv-loop μ-loop Inv-loop2 μ-loop2 Inv-rounds μ-rounds
-add-at-2 c = omega arith
+add-at-2 c = omega (arith, at-small (c .before .before .before .before .before .before .before .before .before .before .before))
 
 enum-known-x-2 : tie.Need-enum-known-x-2 Inv-loop μ-loop Inv-loop2 μ-loop2 Inv-rounds μ-rounds
 enum-known-x-2 c = c .match .keys3
@@ -132,7 +147,7 @@ replace-requires c κs =
     step.replace-fits (entry (t .before .before) .pre .0) (t .before .loop .inv) (t .loop-test .taken) read
 
 mul-fetches-2 : tie.Need-mul-fetches-2 Inv-loop μ-loop Inv-loop2 μ-loop2 Inv-rounds μ-rounds
-mul-fetches-2 c = omega arith
+mul-fetches-2 c = omega (arith, disk-small (c .before .before .before .before .before .before .before .before .before .before .before))
 
 array-read-fetches-2 : tie.Need-array-read-fetches-2 Inv-loop μ-loop Inv-loop2 μ-loop2 Inv-rounds μ-rounds
 array-read-fetches-2 c = disk-small (c .before .before .before .before .before .before .before .before .before .before .before)
@@ -144,7 +159,7 @@ array-write-fetches-2 : tie.Need-array-write-fetches-2 Inv-loop μ-loop Inv-loop
 array-write-fetches-2 c = disk-small (c .before .before .before .before .before .before .before .before .before .before .before)
 
 add-at-3 : tie.Need-add-at-3 Inv-loop μ-loop Inv-loop2 μ-loop2 Inv-rounds μ-rounds
-add-at-3 c = omega arith
+add-at-3 c = omega (arith, at-small (c .before .before .before .before .before .before .before .before .before .before .before))
 
 enum-known-n : tie.Need-enum-known-n Inv-loop μ-loop Inv-loop2 μ-loop2 Inv-rounds μ-rounds
 enum-known-n c = c .match .keys4
@@ -234,7 +249,7 @@ loop2-again c =
 
 ending-requires : tie.Need-ending-requires Inv-loop μ-loop Inv-loop2 μ-loop2 Inv-rounds μ-rounds
 ending-requires c κs =
-    let n = c .before .before .before .before .pre .1 in
+    let n = begin (c .before .before) .pre .1 in
     let p = c .before .rounds .inv .bounded .near in
     let k = c .before .rounds .inv .within in
     omega (arith, n, p, k)
@@ -242,7 +257,7 @@ ending-requires c κs =
 returns-2 : tie.Need-returns-2 Inv-loop μ-loop Inv-loop2 μ-loop2 Inv-rounds μ-rounds
 returns-2 c =
     c .ending .ensures
-    ∙ ap checkedOf (step.rounds-over (c .before .before .before .before .before .pre .0) (c .before .before .rounds .inv) (c .before .rounds-test .left))
+    ∙ ap checkedOf (step.rounds-over (begin (c .before .before .before) .pre .0) (c .before .before .rounds .inv) (c .before .rounds-test .left))
 
 pub play-spec : {M : Type 1} → statement M
 play-spec =
@@ -254,7 +269,8 @@ play-spec =
     μ-loop2
     Inv-rounds
     μ-rounds
-    empty-requires
+    carrying-requires
+    read-on-requires
     rounds-holds
     loop-holds
     mul-full

@@ -4,12 +4,12 @@ use mathlib.Core.Path.{sym, ap, _∙_}
 use native.Mathlib.Omega.{arith}
 use mathlib.Core.List.{List}
 use Prim.Native.Nat.{ℕ}
-use borrow.Author.Tests.{not-true, not-false}
 use denote.Ref.{now}
 use Rattle.ticket.specs.declared.Row.{Row}
 use Rattle.ticket.specs.declared.Part.{Part}
 use Rattle.ticket.proofs.Stages.{Slots, Disks, Refs, slots-got, disks-got, refs-got}
-use Rattle.ticket.proofs.Stages.{slots-refused, disks-refused, refs-refused, open-refused, accepted}
+use Rattle.ticket.proofs.Stages.{slots-refused, disks-refused, refs-refused, end-refused, accepted}
+use Rattle.ticket.proofs.Parts.{got-room, got-counted, got-small}
 use Rattle.ticket.proofs.read.Statement.{statement}
 use Rattle.ticket.proofs.read.Tie as tie
 
@@ -128,32 +128,54 @@ returns-3 c =
     ∙ sym (refs-refused (ticket a) (first a) (slots a) (slots-read a) (second b) (disk b) (disks-read b) _ (part .before .before .ref-row .ensures)
     (part .table-part3 .ensures .0) (c .before .if3 .taken))
 
-closed-requires : tie.Need-closed-requires
-closed-requires c κs =
-    let p = slots-read (one (two c)) in
-    let q = disks-read (two c) in
-    let r = refs-read c in
-    omega (arith, p .below, p .next, q .below, q .next, r .below, r .next)
+array-share-prefix-slots : tie.Need-array-share-prefix-slots
+array-share-prefix-slots c = got-room (slots-read (one (two c)))
+
+slice-aggregate-end-number : tie.Need-slice-aggregate-end-number
+slice-aggregate-end-number c = got-counted (slots-read (one (two (c .before))))
+
+array-share-prefix-disk : tie.Need-array-share-prefix-disk
+array-share-prefix-disk c = got-room (disks-read (two (c .before)))
+
+slice-aggregate-end-number-2 : tie.Need-slice-aggregate-end-number-2
+slice-aggregate-end-number-2 c = got-counted (disks-read (two (c .before .before)))
+
+end-number-requires : tie.Need-end-number-requires
+end-number-requires c κs =
+    let d = c .before .before .before .before in
+    let p = slots-read (one (two d)) in
+    let q = disks-read (two d) in
+    let r = refs-read d in
+    let slots = got-counted p in
+    let disks = got-counted q in (
+      omega (arith, p .below, p .next, q .below, q .next, r .below, r .next),
+      omega (arith, slots, p .below),
+      got-small p,
+      omega (arith, disks, q .below),
+    )
 
 refused-requires-4 : tie.Need-refused-requires-4
 refused-requires-4 c κs = search needs
 
 returns-4 : tie.Need-returns-4
 returns-4 c =
-    let d = c .before .before .before in
+    let ended = c .before .before in
+    let d = ended .before .before .before .before .before in
     let b = two d in
     let a = one b in
     c .refused4 .ensures
-    ∙ sym (open-refused (ticket a) (first a) (slots a) (slots-read a) (second b) (disk b) (disks-read b) (third d) (refs d) (refs-read d)
-    (sym (c .before .before .closed .ensures) ∙ not-true _ (c .before .if4 .taken)))
+    ∙ sym (end-refused (ticket a) (first a) (slots a) (slots-read a) (second b) (disk b) (disks-read b) (third d) (refs d) (refs-read d)
+    (ended .end-number .ensures .0) (c .before .if4 .taken))
 
 returns-5 : tie.Need-returns-5
 returns-5 c =
-    let d = c .before .before in
+    let ended = c .before in
+    let d = ended .before .before .before .before .before in
     let b = two d in
     let a = one b in
+    let end = ended .end-number .ensures in
     sym (accepted (ticket a) (first a) (slots a) (slots-read a) (second b) (disk b) (disks-read b) (third d) (refs d) (refs-read d)
-    (sym (c .before .closed .ensures) ∙ not-false _ (c .if4 .left)))
+    (end .0) (end .1) (end .2) (c .if4 .left))
 
 pub read-spec : {M : Type 1} → statement M
 read-spec =
@@ -173,7 +195,11 @@ read-spec =
     table-part-requires-3
     refused-requires-3
     returns-3
-    closed-requires
+    array-share-prefix-slots
+    slice-aggregate-end-number
+    array-share-prefix-disk
+    slice-aggregate-end-number-2
+    end-number-requires
     refused-requires-4
     returns-4
     returns-5)

@@ -1,22 +1,25 @@
 -- `ticket::fields::fill_table` meets its contract. The invariant: the answer is what the rest gives from here. Assumes nothing.
 use borrow.Author.Needs.{needs}
 use mathlib.Core.Path.{sym, _∙_}
-use Prim.Native.Nat.{_-_}
+use Prim.Native.Nat.{ℕ, _-_}
 use native.Mathlib.Omega.{arith}
 use denote.Ref.{now}
+use Rattle.ticket.specs.Parts.{ofRow}
 use Rattle.ticket.proofs.Entries.{entry-within}
 use Rattle.ticket.proofs.Filling.{Going, going-start, going-on, going-stopped, going-whole}
 use Rattle.ticket.proofs.fields.fill_table.Statement.{statement}
 use Rattle.ticket.proofs.fields.fill_table.Tie as tie
 
 abbrev Inv-loop : tie.InvT-loop
-Inv-loop t at row count table₀ next₀ i₀ table next i = Going t at row count table₀ next i table
+Inv-loop t at row count table₀ next₀ i₀ table next i = (least : ℕ) × Going (ofRow t row) count at 0 table₀ next least i table
 
 abbrev μ-loop : tie.MeasureT-loop
 μ-loop t at row count table₀ next₀ i₀ table next i = count - i
 
 loop-holds : tie.Need-loop-holds Inv-loop μ-loop
-loop-holds c = let args = c .before .before .args in going-start (now (args .t)) (args .at) (args .row) (args .count) (now (args .table))
+loop-holds c =
+    let args = c .before .before .args in
+    (0, going-start (ofRow (now (args .t)) (args .row)) (args .count) (args .at) 0 (now (args .table)))
 
 checked-requires : tie.Need-checked-requires Inv-loop μ-loop
 checked-requires c κs = omega arith
@@ -42,13 +45,13 @@ enum-known-number : tie.Need-enum-known-number Inv-loop μ-loop
 enum-known-number c = search needs
 
 same-length : tie.Need-same-length Inv-loop μ-loop
-same-length c = c .before .before .before .before .before .loop .inv .long
+same-length c = c .before .before .before .before .before .loop .inv .1 .long
 
 returns : tie.Need-returns Inv-loop μ-loop
 returns c =
     let test = c .before .before .before .before in
     let entry = sym (c .before .before .before .checked .ensures) ∙ c .before .number .given .1 in
-    going-stopped (test .loop-test .taken) entry (test .before .loop .inv)
+    going-stopped (test .before .loop .inv .1) (omega arith) entry
 
 add-next : tie.Need-add-next Inv-loop μ-loop
 add-next c = omega arith
@@ -63,13 +66,13 @@ loop-again : tie.Need-loop-again Inv-loop μ-loop
 loop-again c =
     let test = c .before .before .before .before .before in
     let entry = sym (c .before .before .before .before .checked .ensures) ∙ c .before .before .v .given .1 in
-    going-on (omega arith) (test .loop-test .taken) entry (test .before .loop .inv)
+    (_, going-on (test .before .loop .inv .1) (omega arith) (omega arith) entry)
 
 same-length-2 : tie.Need-same-length-2 Inv-loop μ-loop
-same-length-2 c = c .before .loop .inv .long
+same-length-2 c = c .before .loop .inv .1 .long
 
 returns-2 : tie.Need-returns-2 Inv-loop μ-loop
-returns-2 c = going-whole (c .loop-test .left) (c .before .loop .inv)
+returns-2 c = going-whole (c .before .loop .inv .1) (omega arith)
 
 pub fill-table-spec : {M : Type 1} → statement M
 fill-table-spec =

@@ -3,6 +3,7 @@ use borrow.Author.Needs.{needs}
 use mathlib.Core.Path.{sym, _∙_}
 use native.Mathlib.Omega.{arith}
 use denote.Ref.{now}
+use Rattle.ticket.specs.Parts.{ofRow}
 use Rattle.ticket.proofs.Entries.{entry-within}
 use Rattle.ticket.proofs.Filling.{part-entries, part-refused}
 use Rattle.ticket.proofs.fields.table_part.Statement.{statement}
@@ -38,14 +39,15 @@ returns c =
     let checked = count .before .before in
     let args = checked .before .before .before .args in
     let entry = sym (checked .checked .ensures) ∙ count .count .given .1 in
-    part-entries (now (args .t)) (args .at) (args .counts) (args .entries) (now (args .table)) entry (filled .fill-table .ensures)
+    part-entries (now (args .t)) (args .at) (args .counts) (ofRow (now (args .t)) (args .entries)) 0 (now (args .table)) entry
+    (filled .fill-table .ensures)
 
 returns-2 : tie.Need-returns-2
 returns-2 c =
     let checked = c .before .before .before in
     let args = checked .before .before .before .args in
     let entry = sym (checked .checked .ensures) ∙ c .before .number .given .1 in
-    part-refused (now (args .t)) (args .at) (args .counts) (args .entries) (now (args .table)) entry
+    part-refused (now (args .t)) (args .at) (args .counts) (ofRow (now (args .t)) (args .entries)) 0 (now (args .table)) entry
 
 pub table-part-spec : {M : Type 1} → statement M
 table-part-spec =
