@@ -1,11 +1,11 @@
 -- Tests, and facts about every value of a list. Assumes nothing.
 use mathlib.Core.Path.{_≡_, refl, sym, _∙_}
 use mathlib.Core.List.{List, [], _∷_}
-use Prim.Native.Nat.{ℕ, zero, suc, _≤_, _<_}
+use Prim.Native.Nat.{ℕ, zero, suc, _-_, _≤_, _<_}
 use native.Mathlib.Omega.{arith}
-use native.Mathlib.Nat.{le-of-suc-le-suc, not-suc-le-zero}
+use native.Mathlib.Nat.{sub-zero, suc-sub-suc, le-of-suc-le-suc, not-suc-le-zero}
 use lib.Dec.{ltb, leb}
-use lib.ListN.{length, getD, replicate}
+use lib.ListN.{length, getD, drop, replicate}
 use borrow.Author.Tests.{lt-ltb, le-ltb, leb-true, leb-false}
 use mathlib.Core.Bool.{Bool, true, false, not, _&&_, _||_, true≢false}
 
@@ -81,3 +81,9 @@ pub getD-same : {A : Type 0} (n i : ℕ) (x : A) → getD (replicate n x) i x �
 getD-same zero i x = refl
 getD-same (suc n) zero x = refl
 getD-same (suc n) (suc i) x = getD-same n i x
+
+-- and what is left of it is one as well
+pub drop-same : {A : Type 0} (k n : ℕ) (x : A) → k ≤ n → drop k (replicate n x) ≡ replicate (n - k) x
+drop-same zero n x h = rw (sub-zero n)
+drop-same (suc k) zero x h = absurd (not-suc-le-zero h)
+drop-same (suc k) (suc n) x h = rw (suc-sub-suc n k) (drop-same k n x (omega arith))

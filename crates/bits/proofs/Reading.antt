@@ -91,6 +91,15 @@ pub refuse-ok : (n : ℕ) (t : Bool) (l : List ℕ) → t ≡ false → refuseIf
 unfolding refuseIf
 refuse-ok n t l e = rw e
 
+-- a reader that then gives what it read is that reader
+pub bind-give : {A : Type 0} (m : Reader A) (l : List ℕ) → m l ≡ (m >>= λ a. give a) l
+unfolding _>>=_ bind give
+bind-give {A} m l = go (m l)
+  where
+    go : (x : Read A) → x ≡ bind x (λ a. give a)
+    go (got a rest) = refl
+    go (stop n) = refl
+
 -- a refusal is the first that counts
 
 pub bind-stop : {A B : Type 0} (m : Reader A) (f : A → Reader B) (l : List ℕ) {n : ℕ} → m l ≡ stop n → (m >>= f) l ≡ stop n

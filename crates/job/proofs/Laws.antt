@@ -6,9 +6,9 @@ use Prim.Native.Nat.{ℕ, zero, suc, _+_, _-_, _*_, _≤_, _<_}
 use native.Mathlib.Omega.{arith}
 use lib.Dec.{ltb}
 use borrow.Author.Tests.{ltb-true, ltb-false}
-use Rattle.bits.proofs.Logic.{by-test, getD-same}
+use Rattle.bits.proofs.Logic.{by-test, getD-same, drop-same}
 use lib.ListN.{length, take, drop, getD, replicate, length-append, length-replicate, length-take, length-map, List·getD-append, List·getD-map}
-use lib.Seq.{take-append-seam, take-append-le, drop-append-add, getD-append-add, getD-take, take-take, ext-getD}
+use lib.Seq.{sets, sets-eq, take-append-seam, take-append-le, drop-append-add, getD-append-add, getD-take, take-take, ext-getD}
 use Rattle.model.specs.Job.{Job, Sound, diskCount, blockCount, refCount, slotsOf, diskOf, refAt, upTo}
 use Rattle.model.specs.Plans.{each}
 use Rattle.model.proofs.Plans.{length-each, getD-each}
@@ -16,16 +16,26 @@ use Rattle.model.proofs.Stop.{stop-sound}
 use Rattle.job.specs.Meaning.{carriedIn, jobOf, padTo, rowsOf, stored, counting, Fits}
 use Rattle.job.specs.declared.Job.{Job as Stored}
 
-length-padTo : (n : ℕ) (l : List ℕ) → length l ≤ n → length (padTo n l) ≡ n
+pub length-padTo : (n : ℕ) (l : List ℕ) → length l ≤ n → length (padTo n l) ≡ n
 unfolding padTo
 length-padTo n l h =
     let e = length-append l (replicate (n - length l) 0) in
     let r = length-replicate {A = ℕ} (n - length l) 0 in
     omega (arith, e, r)
 
-take-padTo : (n : ℕ) (l : List ℕ) → take (length l) (padTo n l) ≡ l
+pub take-padTo : (n : ℕ) (l : List ℕ) → take (length l) (padTo n l) ≡ l
 unfolding padTo
 take-padTo n l = take-append-seam l (replicate (n - length l) 0)
+
+-- a list that was written into zeros
+pub sets-zeros : (n : ℕ) (vs : List ℕ) → length vs ≤ n → sets (replicate n 0) 0 vs ≡ padTo n vs
+unfolding padTo
+sets-zeros n vs h =
+    let len = length-replicate {A = ℕ} n 0 in
+    let e : 0 + length vs ≡ length vs = omega arith in
+    sets-eq vs (replicate n 0) 0 (omega arith)
+    ∙ ap (λ (k : ℕ). vs ++ drop k (replicate n 0)) e
+    ∙ ap (λ (l : List ℕ). vs ++ l) (drop-same (length vs) n 0 h)
 
 -- two lists below a bound, one after the other
 append-below : (k : ℕ) (l m : List ℕ) → ((i : ℕ) → i < length l → getD l i 0 < k) → ((i : ℕ) → getD m i 0 < k) → (i : ℕ) → getD (l ++ m) i 0 < k

@@ -14,7 +14,7 @@ use borrow.Author.Tests.{eq-eqb, eqb-true, eqb-false, ltb-true, ltb-false}
 use Rattle.bits.proofs.Logic.{by-test, clash, and-false-left, and-false-right, getD-same}
 use Rattle.model.specs.Job.{Job, diskCount, blockCount, slotsOf, diskOf}
 use Rattle.model.specs.Playing.{Action, idle, fetch, replace, Schedule, State, noneResident, isResident, load, act, actAll, playRound, play, fetched, discarded, total}
-use Rattle.model.specs.Valid.{Legal, LegalAll, ValidFrom}
+use Rattle.model.specs.Valid.{Legal, LegalAll, Round, ValidFrom}
 use Rattle.model.proofs.Counting.{count-same, count-insert, count-zero}
 use Rattle.model.proofs.Playing.{round-plays}
 
@@ -172,6 +172,13 @@ load-round j marks long d (a ∷ more) h e (suc k) q =
     let own = load-elsewhere j marks d a (h .0) e (λ r. absurd (omega arith)) in
     omega (arith, rest, own)
 
+step-load : (j : Job) (s : State) (actions : List Action) (t : State) → Round j s actions t → blockCount j ≤ length (s .resident) → (d : ℕ)
+    → load j (t .resident) d + discarded (getD actions d idle) ≡ load j (s .resident) d + fetched (getD actions d idle)
+step-load j s actions t r long d =
+    let whole = load-round j (s .resident) long 0 actions (r .legal) d d (omega arith) in
+    let after = ap (λ (m : List Bool). load j m d) (r .played) in
+    omega (arith, whole, after)
+
 pub legal-take : (j : Job) (marks : List Bool) (d i : ℕ) (actions : List Action) → LegalAll j marks d actions → LegalAll j marks d (take i actions)
 unfolding LegalAll
 legal-take j marks d zero actions h = tt
@@ -215,13 +222,12 @@ moment-load j s (actions ∷ more) long v d p fits (suc k) i =
     let t = v .0 in
     let r = v .1 in
     let same = round-plays j s actions t r in
-    let whole = load-round j (s .resident) long 0 actions (r .legal) d d (omega arith) in
-    let after = ap (λ (m : List Bool). load j m d) (r .played) in
+    let step = step-load j s actions t r long d in
     let l : length (t .resident) ≡ length (s .resident) = ap length (r .played) ∙ length-actAll (s .resident) actions in
     let ih = moment-load j t more (omega arith) (v .2) d p (r .a2 d p) k i in
     let a : load j (play j t (soFar k i more) .resident) d ≡ load j (play j (playRound j s actions) (soFar k i more) .resident) d =
     ap (λ (x : State). load j (play j x (soFar k i more) .resident) d) same in
-    (omega (arith, ih .0, a, whole, after), omega (arith, ih .1, a))
+    (omega (arith, ih .0, a, step), omega (arith, ih .1, a))
 
 -- So it is after k whole rounds.
 pub rounds-load : (j : Job) (s : State) (schedule : Schedule) → blockCount j ≤ length (s .resident) → ValidFrom j s schedule
@@ -235,10 +241,9 @@ rounds-load j s (actions ∷ more) long v d p fits (suc k) =
     let t = v .0 in
     let r = v .1 in
     let same = round-plays j s actions t r in
-    let whole = load-round j (s .resident) long 0 actions (r .legal) d d (omega arith) in
-    let after = ap (λ (m : List Bool). load j m d) (r .played) in
+    let step = step-load j s actions t r long d in
     let l : length (t .resident) ≡ length (s .resident) = ap length (r .played) ∙ length-actAll (s .resident) actions in
     let ih = rounds-load j t more (omega arith) (v .2) d p (r .a2 d p) k in
     let a : load j (play j t (take k more) .resident) d ≡ load j (play j (playRound j s actions) (take k more) .resident) d =
     ap (λ (x : State). load j (play j x (take k more) .resident) d) same in
-    (omega (arith, ih .0, a, whole, after), omega (arith, ih .1, a))
+    (omega (arith, ih .0, a, step), omega (arith, ih .1, a))

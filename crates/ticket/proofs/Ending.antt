@@ -15,11 +15,12 @@ use Rattle.model.specs.Job.{Job}
 use Rattle.model.specs.Ticket.{carriedFields}
 use Rattle.model.proofs.CarriedFields.{fields-wrote}
 use Rattle.job.specs.Meaning.{padTo, rowsOf}
-use Rattle.ticket.specs.Carried.{Carried, carriedAt, endNumber}
-use Rattle.ticket.specs.declared.Part.{Part}
-use Rattle.ticket.proofs.Parts.{sets-zeros}
-use Rattle.ticket.proofs.Rows.{rows-written}
-use Rattle.ticket.proofs.CarriedParts.{AllRead, complete, ended, all-read}
+use Rattle.job.proofs.Laws.{sets-zeros}
+use Rattle.carried.specs.Carried.{Carried, carriedAt}
+use Rattle.entries.specs.declared.Part.{Part}
+use Rattle.carried.proofs.Rows.{rows-written}
+use Rattle.carried.proofs.CarriedParts.{AllRead, complete, ended, all-read}
+use Rattle.ticket.specs.Ending.{endNumber}
 
 -- the number, by what was read and the closing bits
 

@@ -1,10 +1,4 @@
-pub mod Entries
-pub mod Filling
-pub mod Blocks
-pub mod Parts
-pub mod Rows
-pub mod CarriedParts
-pub mod DiskByDisk
-pub mod Ending
-pub mod Stages
+mod Tables
+mod Ending
+mod Stages
 pub mod Laws

@@ -15,12 +15,15 @@ use Rattle.model.specs.Job.{Job}
 use Rattle.model.specs.Ticket.{slotsField, diskField, refField, ticketReader, ticketOf}
 use Rattle.job.specs.Meaning.{stored}
 use Rattle.ticket.specs.Meaning.{noTicket, answerOf, ticketRead}
-use Rattle.ticket.specs.Parts.{disksRow, slotsRow, blocksRow, diskRow, refsRow, refRow, ofRow, Filled, partAt}
-use Rattle.ticket.specs.Carried.{Carried, endNumber}
-use Rattle.ticket.specs.declared.Row.{Row}
-use Rattle.ticket.specs.declared.Part.{Part}
-use Rattle.ticket.proofs.Entries.{entry-reads, any-test}
-use Rattle.ticket.proofs.Parts.{Reads, row-reads, PartRead, part-reads, Got, part-got, part-stop, got-lent}
+use Rattle.ticket.specs.Rows.{disksRow, slotsRow, blocksRow, diskRow, refsRow, refRow}
+use Rattle.ticket.specs.Ending.{endNumber}
+use Rattle.entries.specs.Parts.{ofRow, Filled, partAt}
+use Rattle.carried.specs.Carried.{Carried}
+use Rattle.entries.specs.declared.Row.{Row}
+use Rattle.entries.specs.declared.Part.{Part}
+use Rattle.entries.proofs.Entries.{entry-reads, any-test}
+use Rattle.entries.proofs.Parts.{Reads, row-reads, PartRead, part-reads}
+use Rattle.ticket.proofs.Tables.{Got, part-got, part-stop, got-lent}
 use Rattle.ticket.proofs.Ending.{endReader, endPart, end-stop, end-got}
 
 -- the tests of the readers are those of the rows

@@ -1,3 +1,3 @@
-pub mod Parts
-pub mod Carried
+pub mod Rows
+pub mod Ending
 pub mod Meaning

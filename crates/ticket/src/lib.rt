@@ -1,46 +1,22 @@
 // A ticket's bytes read, field by field, into a job by value; the number of a stop.
-mod carried;
-mod fields;
-
 use bits::read::closed;
 use carried::carried_part;
-use fields::table_part;
+use entries::Row;
+use entries::table_part;
 use job::Job;
 ghost use mathlib.Core.Path.{_≡_};
 ghost use Prim.Native.Nat.{_≤_, _<_};
 ghost use lib.ListN.{length};
 ghost use Rattle.bits.specs.Bits.{Below};
+ghost use Rattle.carried.specs.Carried.{carriedAt};
 ghost use Rattle.ticket.specs.Meaning.{noTicket, ticketRead, stopNumber};
-ghost use Rattle.ticket.specs.Parts.{diskRow, refRow};
-ghost use Rattle.ticket.specs.Carried.{carriedAt, Ends};
+ghost use Rattle.ticket.specs.Rows.{diskRow, refRow};
+ghost use Rattle.ticket.specs.Ending.{Ends};
 
 // What reading a ticket gives: 0 and its job, or the number with which the ticket is refused and an empty job.
 pub struct Ticket {
     pub number: usize,
     pub job: Job,
-}
-
-// A row of document 01's table of ticket fields, or a field of document 02's L9: its bits, its values, from `least` on and below `limit`, and the
-// number that refuses others.
-pub struct Row {
-    pub width: usize,
-    pub least: usize,
-    pub limit: usize,
-    pub number: usize,
-}
-
-// What reading one field gives: its value, or the number that refuses it.
-pub enum Entry {
-    Value(usize),
-    Refused(usize),
-}
-
-// What reading a part of a ticket gives. A part is a count and then that many entries. 0, the count and the bit after the part; or the number
-// that refuses it. Of the blocks carried in on all disks, the count is that of the disks.
-pub struct Part {
-    pub number: usize,
-    pub count: usize,
-    pub next: usize,
 }
 
 // disks D: 1 to 8

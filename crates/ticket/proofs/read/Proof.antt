@@ -5,11 +5,11 @@ use native.Mathlib.Omega.{arith}
 use mathlib.Core.List.{List}
 use Prim.Native.Nat.{ℕ}
 use denote.Ref.{now}
-use Rattle.ticket.specs.declared.Row.{Row}
-use Rattle.ticket.specs.declared.Part.{Part}
+use Rattle.entries.specs.declared.Row.{Row}
+use Rattle.entries.specs.declared.Part.{Part}
 use Rattle.ticket.proofs.Stages.{Slots, Disks, Refs, slots-got, disks-got, refs-got}
 use Rattle.ticket.proofs.Stages.{slots-refused, disks-refused, refs-refused, end-refused, accepted}
-use Rattle.ticket.proofs.Parts.{got-room, got-counted, got-small}
+use Rattle.ticket.proofs.Tables.{got-room, got-counted, got-small}
 use Rattle.ticket.proofs.read.Statement.{statement}
 use Rattle.ticket.proofs.read.Tie as tie
 

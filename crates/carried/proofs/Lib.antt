@@ -1,0 +1,4 @@
+mod Blocks
+pub mod Rows
+pub mod CarriedParts
+mod DiskByDisk

@@ -1,0 +1,3 @@
+pub mod Entries
+pub mod Filling
+pub mod Parts
