@@ -17,9 +17,15 @@
  * read, and a block that is read only from there on is as one that is never read again. A stop that is the ticket's number of references is the whole
  * job; any value may be given, and one above that number is refused.
  *
- * After its references a ticket has, for each disk in order, the number of blocks that it carries in, in 7 bits, at most its slots, and then these
- * blocks, in 9 bits each, all of that disk and each above the one before; a disk that carries in none has the number 0. Every sheet for a ticket,
- * planned, checked or chosen, starts from its carried blocks. A carried block is no fetch; it has its slot, as a fetched one, until it is discarded.
+ * A ticket is, without gaps and most significant bit first: the number of disks, 1 to 8, in 4 bits; the slots of each disk, 1 to 64, in 7; the
+ * number of blocks, 1 to 512, in 10; the disk of each block in 3; the number of references, 0 to 2048, in 12; the block of each reference in 9; and
+ * for each disk in order the number of blocks that it carries in, at most its slots, in 7, and then these blocks in 9 each, all of that disk and
+ * each above the one before. A disk that carries in none has the number 0 there. Zero bits fill the last byte. A sheet is the number of rounds
+ * written, in 12 bits, and for each round and each disk in order the bit 0, or 1, the fetched block in 9 bits, and 0, or 1 and the discarded block
+ * in 9 bits.
+ *
+ * Every sheet for a ticket, planned, checked or chosen, starts from its carried blocks. A carried block is no fetch; it has its slot, as a fetched
+ * one, until it is discarded.
  *
  * A sheet's rounds, for a ticket and a stop, are those that are charged: up to the round in which the last reference before the stop is read, 0 if
  * nothing had to be fetched. The rounds written, which the sheet's first 12 bits say, may be more, idle or not; its fetches are counted in

@@ -14,7 +14,7 @@ use Rattle.bits.specs.Reading.{Read, got, stop, _>>=_, give}
 use Rattle.bits.proofs.Reading.{bind-ok, bind-give, bind-stop}
 use Rattle.model.specs.Ticket.{carriedBlocks, carriedField, carriedFields}
 use Rattle.entries.specs.Parts.{outside, Filled, noPart}
-use Rattle.carried.specs.Carried.{carriedRow, ofDisk, diskPart, Carried, carriedBy, carriedAt}
+use Rattle.carried.specs.Carried.{carriedRow, blocksOn, diskPart, Carried, carriedBy, carriedParts}
 use Rattle.entries.specs.declared.Part.{Part}
 use Rattle.entries.proofs.Entries.{any-test}
 use Rattle.carried.proofs.Blocks.{block-reads, block-within, block-numbered}
@@ -28,7 +28,7 @@ count-test : (slots v : ℕ) → ltb slots v ≡ outside (carriedRow slots) v
 count-test slots v = ap (λ (k : ℕ). leb k v) (sym (add-one slots)) ∙ any-test (slots + 1) v
 
 module _ (t disks : List ℕ) where
-  blocks-read : (d : ℕ) → Reads t (ofDisk t disks d) (length disks) (carriedBlocks disks d)
+  blocks-read : (d : ℕ) → Reads t (blocksOn t disks d) (length disks) (carriedBlocks disks d)
   unfolding carriedBlocks give
   blocks-read d = record {
     none = λ at least. refl;
@@ -42,7 +42,7 @@ module _ (t disks : List ℕ) where
       (diskPart t disks at d slots table)
   unfolding carriedField
   disk-read at d slots table =
-      part-reads t at (carriedRow slots) (ofDisk t disks d) (length disks) (d * 64) table (λ k. ltb slots k) (carriedBlocks disks d)
+      part-reads t at (carriedRow slots) (blocksOn t disks d) (length disks) (d * 64) table (λ k. ltb slots k) (carriedBlocks disks d)
       (λ n vs. give vs) (λ k. carriedBlocks disks d k 0) (lit< tt) (count-test slots) (lit≤ tt)
       (λ n l. bind-give (carriedBlocks disks d n 0) l) (blocks-read d)
 
@@ -90,9 +90,9 @@ module _ (t disks : List ℕ) where
       → PartRead t at (carriedRow slots) 9 (length disks) (d * 64) table (λ n vs. give vs) (carriedField disks d slots (drop at (bits t))) f
       → ((p : Part) (left : List ℕ) → AllRead t (p .next) (suc d) others (set held d (p .count)) left
       (carriedFields disks (suc d) others (drop (p .next) (bits t)))
-      (carriedAt t disks (p .next) (suc d) others (set held d (p .count)) left))
+      (carriedParts t disks (p .next) (suc d) others (set held d (p .count)) left))
       → AllRead t at d (slots ∷ others) held table (carriedFields disks d (slots ∷ others) (drop at (bits t)))
-      (carriedBy f held λ p left. carriedAt t disks (p .next) (suc d) others (set held d (p .count)) left)
+      (carriedBy f held λ p left. carriedParts t disks (p .next) (suc d) others (set held d (p .count)) left)
   unfolding carriedBy carriedFields give
   all-step at d slots others held table few (whole count next vs least below len small pos g) more =
       all-before at d slots next count others held table vs (omega (arith, pos, below, few)) len (bind-ok (carriedField disks d slots) _ _ g)
@@ -101,8 +101,8 @@ module _ (t disks : List ℕ) where
       rw (ne-eqb n 0 (λ z. omega (arith, z, b))) (ended (noPart n) held left b (bind-stop (carriedField disks d slots) _ _ g))
 
   pub all-read : (at d : ℕ) (slots held table : List ℕ) → Below 65 slots
-      → AllRead t at d slots held table (carriedFields disks d slots (drop at (bits t))) (carriedAt t disks at d slots held table)
-  unfolding carriedAt carriedFields give setRows
+      → AllRead t at d slots held table (carriedFields disks d slots (drop at (bits t))) (carriedParts t disks at d slots held table)
+  unfolding carriedParts carriedFields give setRows
   all-read at d [] held table small = complete [] d at (omega arith) refl
   all-read at d (slots ∷ others) held table small =
       let few = small 0 (omega arith) in

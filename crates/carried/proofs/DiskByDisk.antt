@@ -8,7 +8,7 @@ use lib.ListN.{length, getD, drop, set, drop-of-length-le}
 use lib.Seq.{drop-cons}
 use borrow.Author.Tests.{eq-eqb, ne-eqb}
 use Rattle.entries.specs.Parts.{Filled}
-use Rattle.carried.specs.Carried.{diskPart, Carried, carriedBy, carriedAt, Gives}
+use Rattle.carried.specs.Carried.{diskPart, Carried, carriedBy, carriedParts, Gives}
 use Rattle.entries.specs.declared.Part.{Part}
 
 -- a disk's part that is not refused goes on, and one that is ends it
@@ -26,7 +26,7 @@ by-refused f held more z = rw (ne-eqb (f .part .number) 0 z)
 pub record AllGoing (t disks : List ℕ) (at : ℕ) (slots lentHeld lent : List ℕ) (next d : ℕ) (held table : List ℕ) : Type 0 where
   pub few : d ≤ length slots
   pub near : next ≤ at + d * 583
-  pub rest : carriedAt t disks at 0 slots lentHeld lent ≡ carriedAt t disks next d (drop d slots) held table
+  pub rest : carriedParts t disks at 0 slots lentHeld lent ≡ carriedParts t disks next d (drop d slots) held table
 
 by-three : (c : Carried) {p : Part} {held table : List ℕ} → c ≡ record { part = p; held = held; table = table } → Gives c p held table
 by-three c e = (sym (ap (λ (x : Carried). x .part) e), sym (ap (λ (x : Carried). x .held) e), sym (ap (λ (x : Carried). x .table) e))
@@ -38,11 +38,11 @@ module _ (t disks : List ℕ) (at : ℕ) (slots lentHeld lent : List ℕ) where
 module _ {t disks : List ℕ} {at : ℕ} {slots lentHeld lent : List ℕ} {next d : ℕ} {held table : List ℕ}
     (h : AllGoing t disks at slots lentHeld lent next d held table) where
   -- where disks are left, the next one decides
-  all-by : d < length slots → carriedAt t disks at 0 slots lentHeld lent
+  all-by : d < length slots → carriedParts t disks at 0 slots lentHeld lent
       ≡ carriedBy (diskPart t disks next d (getD slots d 0) table) held
-      (λ p left. carriedAt t disks (p .next) (d + 1) (drop (d + 1) slots) (set held d (p .count)) left)
-  unfolding carriedAt
-  all-by l = h .rest ∙ ap (λ (s : List ℕ). carriedAt t disks next d s held table) (drop-cons slots d 0 l) ∙ simp add-one
+      (λ p left. carriedParts t disks (p .next) (d + 1) (drop (d + 1) slots) (set held d (p .count)) left)
+  unfolding carriedParts
+  all-by l = h .rest ∙ ap (λ (s : List ℕ). carriedParts t disks next d s held table) (drop-cons slots d 0 l) ∙ simp add-one
 
   module _ {p : Part} {left : List ℕ} (l : d < length slots) (e : p ≡ diskPart t disks next d (getD slots d 0) table .part)
       (s : left ≡ diskPart t disks next d (getD slots d 0) table .table) where
@@ -53,18 +53,18 @@ module _ {t disks : List ℕ} {at : ℕ} {slots lentHeld lent : List ℕ} {next 
       rest =
           all-by l
           ∙ by-read (diskPart t disks next d (getD slots d 0) table) held _ (sym (ap (λ (x : Part). x .number) e) ∙ z)
-          ∙ ap₂ (λ (x : Part) (y : List ℕ). carriedAt t disks (x .next) (d + 1) (drop (d + 1) slots) (set held d (x .count)) y) (sym e) (sym s);
+          ∙ ap₂ (λ (x : Part) (y : List ℕ). carriedParts t disks (x .next) (d + 1) (drop (d + 1) slots) (set held d (x .count)) y) (sym e) (sym s);
     }
 
-    pub all-stopped : (p .number ≡ 0 → ⊥) → Gives (carriedAt t disks at 0 slots lentHeld lent) p held left
+    pub all-stopped : (p .number ≡ 0 → ⊥) → Gives (carriedParts t disks at 0 slots lentHeld lent) p held left
     all-stopped z =
-        by-three (carriedAt t disks at 0 slots lentHeld lent)
+        by-three (carriedParts t disks at 0 slots lentHeld lent)
         (all-by l
         ∙ by-refused (diskPart t disks next d (getD slots d 0) table) held _ (λ y. z (ap (λ (x : Part). x .number) e ∙ y))
         ∙ ap₂ (λ (x : Part) (y : List ℕ). record { part = x; held = held; table = y }) (sym e) (sym s))
 
-  pub all-whole : length slots ≤ d → Gives (carriedAt t disks at 0 slots lentHeld lent) (record { number = 0; count = d; next = next }) held table
-  unfolding carriedAt
+  pub all-whole : length slots ≤ d → Gives (carriedParts t disks at 0 slots lentHeld lent) (record { number = 0; count = d; next = next }) held table
+  unfolding carriedParts
   all-whole l =
-      by-three (carriedAt t disks at 0 slots lentHeld lent)
-      (h .rest ∙ ap (λ (s : List ℕ). carriedAt t disks next d s held table) (drop-of-length-le slots {i = d} l))
+      by-three (carriedParts t disks at 0 slots lentHeld lent)
+      (h .rest ∙ ap (λ (s : List ℕ). carriedParts t disks next d s held table) (drop-of-length-le slots {i = d} l))

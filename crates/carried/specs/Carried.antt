@@ -29,12 +29,12 @@ unfoldable pub blockAt : List ℕ → List ℕ → (d at least : ℕ) → Entry
 unfolding onDisk entryAt
 blockAt t disks d at least = onDisk disks d (entryAt t at (blockRow least (length disks)))
 
-abbrev pub ofDisk : List ℕ → List ℕ → ℕ → Entries
-ofDisk t disks d = record { width = 9; entry = λ at least. blockAt t disks d at least }
+abbrev pub blocksOn : List ℕ → List ℕ → ℕ → Entries
+blocksOn t disks d = record { width = 9; entry = λ at least. blockAt t disks d at least }
 
 -- The blocks carried in on disk d, which has so many slots: written from place d * 64 on.
 abbrev pub diskPart : List ℕ → List ℕ → (at d slots : ℕ) → List ℕ → Filled
-diskPart t disks at d slots table = partAt t at (carriedRow slots) (ofDisk t disks d) (d * 64) table
+diskPart t disks at d slots table = partAt t at (carriedRow slots) (blocksOn t disks d) (d * 64) table
 
 -- What was read of all disks, how many blocks are carried in on each, and which.
 pub record Carried : Type 0 where
@@ -47,11 +47,11 @@ unfoldable pub carriedBy : Filled → List ℕ → (Part → List ℕ → Carrie
 carriedBy f held more = cond (eqb (f .part .number) 0) (more (f .part) (f .table)) (record { part = f .part; held = held; table = f .table })
 
 -- "for each disk": the parts of the disks from d on, which have these slots.
-unfoldable pub carriedAt : List ℕ → List ℕ → (at d : ℕ) (slots held table : List ℕ) → Carried
+unfoldable pub carriedParts : List ℕ → List ℕ → (at d : ℕ) (slots held table : List ℕ) → Carried
 unfolding carriedBy partAt
-carriedAt t disks at d [] held table = record { part = record { number = 0; count = d; next = at }; held = held; table = table }
-carriedAt t disks at d (slots ∷ others) held table =
-    carriedBy (diskPart t disks at d slots table) held λ p left. carriedAt t disks (p .next) (suc d) others (set held d (p .count)) left
+carriedParts t disks at d [] held table = record { part = record { number = 0; count = d; next = at }; held = held; table = table }
+carriedParts t disks at d (slots ∷ others) held table =
+    carriedBy (diskPart t disks at d slots table) held λ p left. carriedParts t disks (p .next) (suc d) others (set held d (p .count)) left
 
 -- A part and two tables are those of what was read.
 abbrev pub Gives : Carried → Part → (held table : List ℕ) → Type 0

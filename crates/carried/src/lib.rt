@@ -8,7 +8,7 @@ ghost use Prim.Native.Nat.{_+_, _*_, _^_, _≤_, _<_};
 ghost use lib.ListN.{length};
 ghost use Rattle.bits.specs.Bits.{Below};
 ghost use Rattle.entries.specs.Parts.{fill};
-ghost use Rattle.carried.specs.Carried.{carriedRow, blockRow, blockAt, ofDisk, diskPart, carriedAt, Gives};
+ghost use Rattle.carried.specs.Carried.{carriedRow, blockRow, blockAt, blocksOn, diskPart, carriedParts, Gives};
 
 // how many blocks are carried in on a disk: 0 to its slots
 fn carried_row(slots: usize) -> Row
@@ -65,9 +65,9 @@ fn fill_blocks(
     requires { ⌜ length (now disk) ≤ 512 ⌝ }
     requires { ⌜ d < 8 ⌝ }
     requires { ⌜ count ≤ 64 ⌝ }
-    ensures { λ r. ⌜ r ≡ fill (ofDisk (now (t .entry)) (now (disk .entry)) d) count at 0 (d * 64) count (now (carried .entry)) .part ⌝ }
+    ensures { λ r. ⌜ r ≡ fill (blocksOn (now (t .entry)) (now (disk .entry)) d) count at 0 (d * 64) count (now (carried .entry)) .part ⌝ }
     ensures { λ r. ⌜ now (carried .exit)
-        ≡ fill (ofDisk (now (t .entry)) (now (disk .entry)) d) count at 0 (d * 64) count (now (carried .entry)) .table ⌝ }
+        ≡ fill (blocksOn (now (t .entry)) (now (disk .entry)) d) count at 0 (d * 64) count (now (carried .entry)) .table ⌝ }
 {
     let end = d * 64 + count;
     let mut next = at;
@@ -133,7 +133,7 @@ pub fn carried_part(
     carried: &mut [u16; 512],
 ) -> Part
     requires { ⌜ (at < 60000) × (length (now slots) ≤ 8) × Below 65 (now slots) × (length (now disk) ≤ 512) ⌝ }
-    ensures { λ r. ⌜ Gives (carriedAt (now (t .entry)) (now (disk .entry)) at 0 (now (slots .entry)) (now (held .entry)) (now (carried .entry)))
+    ensures { λ r. ⌜ Gives (carriedParts (now (t .entry)) (now (disk .entry)) at 0 (now (slots .entry)) (now (held .entry)) (now (carried .entry)))
         r (now (held .exit)) (now (carried .exit)) ⌝ }
 {
     let mut next = at;

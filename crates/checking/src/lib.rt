@@ -51,8 +51,9 @@ fn ending(sheet: &[u8], at: usize, left: bool, charged: usize, fetches: [u16; 8]
     }
 }
 
-// The rounds of a sheet, played from the blocks carried in, of which as much is read as they allow. In each round every disk does its action, and then references are consumed in order: the reading stops at the first
-// missing block or at the end. A round is charged where references remain when its reading starts.
+// The rounds of a sheet, played from the blocks carried in, of which as much is read as they allow. In each round every disk does its action, and
+// then references are consumed in order: the reading stops at the first missing block or at the end. A round is charged where references remain when
+// its reading starts.
 fn play(job: Job, sheet: &[u8], rounds: usize) -> Checked
     requires { ⌜ Fits job × (rounds ≤ 2048) ⌝ }
     ensures { λ r. ⌜ r ≡ checkedOf (played (jobOf job) rounds (now (sheet .entry))) ⌝ }

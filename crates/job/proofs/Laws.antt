@@ -103,13 +103,13 @@ module _ (j : Job) (sound : Sound j) where
       let most = sound .fewSlots d (omega (arith, lists)) in
       omega (arith, few, most)
 
-  carried-back : each (carriedIn (stored j)) 0 (diskCount j) ≡ j .carried
+  carried-back : each (carriedIn (stored j .held) (stored j .carried)) 0 (diskCount j) ≡ j .carried
   unfolding stored padTo
   carried-back =
       let lists = sound .oneList in
-      let long = length-each (carriedIn (stored j)) 0 (diskCount j) in
-      ext-getD [] (each (carriedIn (stored j)) 0 (diskCount j)) (j .carried) (long ∙ sym lists) λ d l.
-      getD-each (carriedIn (stored j)) 0 (diskCount j) d [] (omega (arith, long, l)) ∙ ap (carriedIn (stored j)) (let e : 0 + d ≡ d = omega arith in e)
+      let long = length-each (carriedIn (stored j .held) (stored j .carried)) 0 (diskCount j) in
+      ext-getD [] (each (carriedIn (stored j .held) (stored j .carried)) 0 (diskCount j)) (j .carried) (long ∙ sym lists) λ d l.
+      getD-each (carriedIn (stored j .held) (stored j .carried)) 0 (diskCount j) d [] (omega (arith, long, l)) ∙ ap (carriedIn (stored j .held) (stored j .carried)) (let e : 0 + d ≡ d = omega arith in e)
       ∙ ap (λ (n : ℕ). take n (drop (d * 64) (padTo 512 (rowsOf (j .carried))))) (held-at (j .carried) d (omega (arith, long, l, lists)))
       ∙ rows-back (j .carried) _ short-lists d (omega (arith, long, l, lists))
 
@@ -162,7 +162,7 @@ jobOf-counting n c few = λ i. record {
   slots = take (c .disks) (c .slots);
   blockDisks = take (c .blocks) (c .disk);
   refs = sym (take-take n (c .count) (c .refs) few) i;
-  carried = each (carriedIn c) 0 (c .disks);
+  carried = each (carriedIn (c .held) (c .carried)) 0 (c .disks);
 }
 
 pub counting-fits : (n : ℕ) (c : Stored) → n ≤ c .count → Fits c → Fits (counting n c)

@@ -7,9 +7,9 @@ use Rattle.model.specs.Job.{Job, Sound, diskCount, blockCount, refCount}
 use Rattle.model.specs.Plans.{each}
 use Rattle.job.specs.declared.Job.{Job as Stored}
 
--- the blocks carried in on disk d
-abbrev pub carriedIn : Stored → ℕ → List ℕ
-carriedIn c d = take (getD (c .held) d 0) (drop (d * 64) (c .carried))
+-- the blocks carried in on disk d: as many as `held` says, from the place d * 64 on
+abbrev pub carriedIn : List ℕ → List ℕ → ℕ → List ℕ
+carriedIn held blocks d = take (getD held d 0) (drop (d * 64) blocks)
 
 -- the job that the counts and arrays say
 unfoldable pub jobOf : Stored → Job
@@ -18,7 +18,7 @@ jobOf c = record {
   slots = take (c .disks) (c .slots);
   blockDisks = take (c .blocks) (c .disk);
   refs = take (c .count) (c .refs);
-  carried = each (carriedIn c) 0 (c .disks);
+  carried = each (carriedIn (c .held) (c .carried)) 0 (c .disks);
 }
 
 -- a list followed by zeros, n entries in all

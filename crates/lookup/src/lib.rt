@@ -1,5 +1,6 @@
 // The desk of a plan: distances of blocks, residents and pointers of disks, each a row. It is made from the reference list in two backward passes,
-// and kept up in constant time a reference. The steps lead from each reference to the next. How a position is held is known here only.
+// and kept up in constant time a reference. The steps lead from each reference to the next. How a position is held is known here only; the
+// residents come as a job has its blocks, in 16 bits.
 ghost use mathlib.Core.Path.{_≡_};
 ghost use Prim.Native.Nat.{_<_, _≤_};
 ghost use lib.ListN.{length, getD, set};
@@ -95,8 +96,8 @@ pub fn open(refs: &[u16], disk_of: &[u16; 512], desk: &mut Desk, steps: &mut Ste
     chain(refs, disk_of, &mut desk[LOOK], &mut steps[OF_DISK]);
 }
 
-// The residents of all disks, those of disk d from d * 64 on.
-pub fn hold(desk: &mut Desk, residents: &Row)
+// Sets the residents of all disks, those of disk d from d * 64 on.
+pub fn put_residents(desk: &mut Desk, residents: &Row)
     ensures { λ _. ⌜ now (desk .exit) ≡ set (now (desk .entry)) HELD (now (residents .entry)) ⌝ }
 {
     desk[HELD] = *residents;

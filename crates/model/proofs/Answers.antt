@@ -274,9 +274,9 @@ linesTen =
     "  10 0   1   0 M" ∷
     []
 
--- Where two tests that follow each other can both refuse, a row says which one does. These cannot: 1 inside the last carried block and 8; 10 and the end
--- inside the first fetch bit, since a sheet has whole bytes; 11 for a block of B or more and 12, since no such block is ever in a buffer; 13
--- and either of 20 and 14, since the discard bit leads to 13 or to those two.
+-- Where two tests that follow each other can both refuse, a row says which one does. These cannot: 1 inside the last carried block and 8; 10 and the
+-- end inside the first fetch bit, since a sheet has whole bytes; 11 for a block of B or more and 12, since no such block is ever in a buffer; 13 and
+-- either of 20 and 14, since the discard bit leads to 13 or to those two.
 pub table : List Case
 unfolding hex outcome ticketIn stopAt upTo jobUpTo text ended _>>=_ _>>_ bind give field refuseIf many isClosed closing answer readAll slotsField diskField refField carriedBlocks carriedField carriedFields ticketReader ticketOf discardReader fetchReader actionReader roundReader roundsReader sheetReader scheduleRead play load noneResident
 table =
@@ -344,8 +344,8 @@ table =
     row (plan (hex 3 0x102009)) (number 5) refl ∷
     row (plan (hex 5 0x1020088010)) (number 6) refl ∷
     row (plan (hex 6 0x102008002008)) (number 7) refl ∷
-    -- The last reference, 1 of 1 block, comes before the end inside the count of carried blocks, before the closing bits 0001 and before a byte more: 7,
-    -- and then 8 for each of the last two by itself.
+    -- The last reference, 1 of 1 block, comes before the end inside the count of carried blocks, before the closing bits 0001 and before a byte
+    -- more: 7, and then 8 for each of the last two by itself.
     row (plan (hex 6 0x102008001008)) (number 7) refl ∷
     row (plan (hex 7 0x10200800100801)) (number 7) refl ∷
     row (plan (hex 8 0x1020080010080000)) (number 7) refl ∷
@@ -530,14 +530,15 @@ table =
     row (check (hex 8 0x1020080010001000) (hex 2 0x0000)) (passes (counts 0 0 0)) refl ∷
     row (check (hex 8 0x1020080010001000) (hex 2 0x0010)) (passes (counts 0 0 0)) refl ∷
     row (check (hex 8 0x1020080010001000) (hex 3 0x001800)) (number 12) refl ∷
-    -- "25, a count above the slots, tested at the count": 1 comes before it, where the ticket ends inside the count (111 of 7 bits), and 7 of the last
-    -- reference; it comes before the end inside a number, and before a number that is 1 of 1 block.
+    -- "25, a count above the slots, tested at the count": 1 comes before it, where the ticket ends inside the count (111 of 7 bits), and 7 of the
+    -- last reference; it comes before the end inside a number, and before a number that is 1 of 1 block.
     row (plan (hex 6 0x102008001007)) (number 1) refl ∷
     row (plan (hex 7 0x10200800100820)) (number 7) refl ∷
     row (plan (hex 7 0x10200800100020)) (number 25) refl ∷
     row (plan (hex 9 0x102008001000200804)) (number 25) refl ∷
-    -- "26, a number not above the one before it, B or more, or on another disk, tested at that number": 1 comes before it, where the ticket ends inside
-    -- the number (0000 and 1111 of 9 bits). Of one disk with two slots and three blocks: 0 and 0, 1 and 0, 3; then 0 and 2, as many as there are slots.
+    -- "26, a number not above the one before it, B or more, or on another disk, tested at that number": 1 comes before it, where the ticket ends
+    -- inside the number (0000 and 1111 of 9 bits). Of one disk with two slots and three blocks: 0 and 0, 1 and 0, 3; then 0 and 2, as many as there
+    -- are slots.
     row (plan (hex 7 0x10200800100010)) (number 1) refl ∷
     row (plan (hex 7 0x1020080010001f)) (number 1) refl ∷
     row (plan (hex 8 0x1020080010001008)) (number 26) refl ∷
@@ -546,17 +547,30 @@ table =
     row (plan (hex 11 0x1040180000c00010101018)) (number 26) refl ∷
     row (read (hex 12 0x1040180000c0001010200008)) (jobCarrying (2 ∷ []) (0 ∷ 0 ∷ 0 ∷ []) (0 ∷ 1 ∷ 2 ∷ []) ((0 ∷ 2 ∷ []) ∷ [])) refl ∷
     row (plan (hex 12 0x1040180000c0001010200008)) (planned isSparing 4 (counts 1 1 0) (counts 1 1 0) (hex 4 0x00180600) (hex 4 0x00180600)) refl ∷
-    -- A number that is refused comes before the end inside the next one. Two disks with a slot each, D's: block 2 on disk 0 and block 1 on disk 1; of the
-    -- first disk 26 comes before 25 of the second, and 25 before 26; a number of the second disk may be below one of the first.
+    -- A number that is refused comes before the end inside the next one. Two disks with a slot each, D's: block 2 on disk 0 and block 1 on disk 1; of
+    -- the first disk 26 comes before 25 of the second, and 25 before 26; a number of the second disk may be below one of the first.
     row (plan (hex 11 0x1040180000c00010102018)) (number 26) refl ∷
     row (plan (hex 14 0x2020404009004000080601020200)) (number 26) refl ∷
     row (plan (hex 14 0x2020404009004000080601000402)) (number 26) refl ∷
     row (plan (hex 17 0x2020404009004000080601020204020180)) (number 26) refl ∷
     row (plan (hex 17 0x2020404009004000080601040000810080)) (number 25) refl ∷
     row (read (hex 11 0x2020402200040004020400)) (jobCarrying (1 ∷ 1 ∷ []) (1 ∷ 0 ∷ []) (0 ∷ []) ((1 ∷ []) ∷ (0 ∷ []) ∷ [])) refl ∷
-    -- "both before 8": with a closing bit that is 1, and with a byte more; 8 by itself then. And so before 21, and before anything of a sheet or a room.
-    row (plan (hex 7 0x10200800100021)) (number 25) refl ∷
-    row (plan (hex 8 0x1020080010002000)) (number 25) refl ∷
+    -- A number that is not above the one before it, and one on another disk, are refused at that number: before the end inside the next one, before
+    -- 25 of the next disk and before the end inside its count, before a closing bit that is 1 and before a byte more.
+    row (plan (hex 9 0x106018000001800000)) (number 26) refl ∷
+    row (plan (hex 13 0x2040404009000040100020100c)) (number 26) refl ∷
+    row (plan (hex 12 0x1040180000c0001010200001)) (number 26) refl ∷
+    row (plan (hex 13 0x1040180000c000101020000000)) (number 26) refl ∷
+    row (plan (hex 9 0x204040400900004020)) (number 26) refl ∷
+    row (plan (hex 8 0x2020402040000804)) (number 26) refl ∷
+    row (plan (hex 9 0x202040204000080401)) (number 26) refl ∷
+    -- A count above the slots is 25 whatever it is: 127, the largest, and 65 of 64 slots.
+    row (plan (hex 7 0x102008001007f0)) (number 25) refl ∷
+    row (plan (hex 7 0x18000800100410)) (number 25) refl ∷
+    -- "both before 8": a count of 2 with one slot and two sound numbers, and a number 1 of 1 block, each with a closing bit that is 1 and with a byte
+    -- more; 8 by itself then. And so before 21, and before anything of a sheet or a room.
+    row (plan (hex 10 0x10201000020004000081)) (number 25) refl ∷
+    row (plan (hex 11 0x1020100002000400008000)) (number 25) refl ∷
     row (plan (hex 8 0x1020080010001009)) (number 26) refl ∷
     row (plan (hex 9 0x102008001000100800)) (number 26) refl ∷
     row (plan (hex 8 0x1020080010001001)) (number 8) refl ∷
@@ -581,7 +595,7 @@ table =
     row (check ticketFull (hex 3 0x001800)) (number 13) refl ∷
     row (check ticketFull (hex 12 0x003802014030040901a03808)) (passes (counts 3 2 2)) refl ∷
     row (check ticketFull (hex 7 0x00280201403008)) (number 14) refl ∷
-    -- "a disk whose slots are all taken by blocks never read": the highest goes first. One disk, two slots, blocks 0 to 3, string 0 1, with 2 and 3.
+    -- Where all slots are taken by blocks that are never read, the highest goes first. One disk, two slots, blocks 0 to 3, string 0 1, with 2 and 3.
     row (plan (hex 11 0x1040200000100002080403)) (planned isSparing 7 (counts 2 2 0) (counts 2 2 0) (hex 7 0x00280203806020) (hex 7 0x00280203806020)) refl ∷
     -- A slot that is empty beside a block carried in: a discard is 20. One disk, two slots, two blocks, string 0 1, with 1.
     row (plan (hex 10 0x10401000040000810080)) (planned isSparing 3 (counts 1 1 0) (counts 1 1 0) (hex 3 0x001800) (hex 3 0x001800)) refl ∷

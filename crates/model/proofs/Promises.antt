@@ -128,8 +128,9 @@ plan-given = Bytes.plan-given
 pub part-handed : (t : List ℕ) (stop : ℕ) (lent₁ lent₂ : List ℕ) (p : Planned) → planAnswer t stop (length lent₁) (length lent₂) ≡ given p → partAfter (given p) lent₁ lent₂ ≡ handed p
 part-handed = Bytes.part-handed
 
--- 4. "The longest ticket has 2,507 bytes, the longest sheet 40,962" (document 01): with the blocks carried in (L9) the longest has 3,090 bytes. No accepted ticket and no sheet that passes is longer, and a ticket of that
--- length is accepted. A sheet of 2,048 rounds of eight actions that each discard a block has 40,962 bytes.
+-- 4. "The longest ticket has 2,507 bytes, the longest sheet 40,962" (document 01): with the blocks carried in (L9) the longest has 3,090 bytes. No
+-- accepted ticket and no sheet that passes is longer, and a ticket of that length is accepted. A sheet of 2,048 rounds of eight actions that each
+-- discard a block has 40,962 bytes.
 pub ticket-length : (t : List ℕ) (j : Job) → ticketOf t ≡ given j → length t ≤ 3090
 ticket-length = Longest.ticket-length
 
@@ -158,7 +159,8 @@ pub choose-refusals : (t : List ℕ) (stop : ℕ) (first second : List ℕ) (n :
     ↔ ((checkAnswer t stop first ≡ refused n) ⊎ ((a : Counts) × (checkAnswer t stop first ≡ given a) × (checkAnswer t stop second ≡ refused n)))
 choose-refusals = TwoSheets.choose-refusals
 
--- A refused choice gives one of 1 to 16, 20, 21, 25 and 26, and each of these is given for some bytes; it hands back no sheet and changes no lent byte.
+-- A refused choice gives one of 1 to 16, 20, 21, 25 and 26, and each of these is given for some bytes; it hands back no sheet and changes no lent
+-- byte.
 pub choose-numbers : (n : ℕ) → (among n checkRefusals ≡ true) ↔ ((t : List ℕ) × (stop : ℕ) × (first : List ℕ) × (second : List ℕ) × (chooseAnswer t stop first second ≡ refused n))
 choose-numbers = Refusals.choose-numbers
 
@@ -395,8 +397,8 @@ pub one-disk : (t : List ℕ) (stop : ℕ) (j : Job) → jobUpTo t stop ≡ give
 one-disk = Waiting.one-disk
 
 -- 11. Request L9, "Blocks carried in from the last job." All that is said above of plans, sheets, choices and pages is of what is played from the
--- state before round 1 (`start`, specs/Playing.antt): "Every sheet for a ticket starts from the same carried blocks, and fewest rounds, fewest fetches
--- and L8 are meant from there." In that state a block is in its disk's buffer exactly if the ticket has it among the blocks carried in there,
+-- state before round 1 (`start`, specs/Playing.antt): "Every sheet for a ticket starts from the same carried blocks, and fewest rounds, fewest
+-- fetches and L8 are meant from there." In that state a block is in its disk's buffer exactly if the ticket has it among the blocks carried in there,
 pub carried-in : (t : List ℕ) (stop : ℕ) (j : Job) → jobUpTo t stop ≡ given j → (d b : ℕ) → d < diskCount j → b < blockCount j → diskOf j b ≡ d
     → (isResident (start j .resident) b ≡ true) ↔ ((i : ℕ) × (i < length (carriedOn j d)) × (carriedAt j d i ≡ b))
 carried-in = Stop.carried-in
@@ -408,8 +410,8 @@ pub read-before : (j : Job) → (start j .next ≤ refCount j) × ((i : ℕ) →
     × (start j .round ≡ 0)
 read-before j = (Carried.start-within j, Carried.start-read j, Carried.start-stops j, Carried.start-round j)
 
--- "A buffer's content is now what was carried in, plus fetches, less discards": so many blocks does it hold after k rounds of a sheet that passes, and
--- never more than its slots. (`buffers`, proofs/Carried.antt, has it at each moment within a round too.)
+-- "A buffer's content is now what was carried in, plus fetches, less discards": so many blocks does it hold after k rounds of a sheet that passes,
+-- and never more than its slots. (`buffers`, proofs/Carried.antt, has it at each moment within a round too.)
 pub buffers-hold : (t : List ℕ) (stop : ℕ) (s : List ℕ) (j : Job) (schedule : Schedule) → jobUpTo t stop ≡ given j → ValidSheet j s schedule → (d : ℕ) → d < diskCount j → (k : ℕ)
     → (load j (play j (start j) (take k schedule) .resident) d + total discarded d (take k schedule) ≡ length (carriedOn j d) + total fetched d (take k schedule))
     × (load j (play j (start j) (take k schedule) .resident) d ≤ slotsOf j d)

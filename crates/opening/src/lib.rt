@@ -42,7 +42,7 @@ pub fn carry(b: Buffers, blocks: &Row, disks: usize, refs: &[u16], steps: &Steps
     requires { ⌜ (length (now refs) ≤ 2048) × Below 512 (now refs) × Ahead (length (now refs)) (ofDisk (now steps)) ⌝ }
     ensures { λ _. ⌜ now (desk .exit) ≡ carriedDesk b (now (blocks .entry)) disks (now (refs .entry)) (now (steps .entry)) (now (desk .entry)) ⌝ }
 {
-    lookup::hold(desk, blocks);
+    lookup::put_residents(desk, blocks);
     move_all(disks, refs, &b.resident, steps, desk);
     pass_all(b.next, refs, steps, desk);
 }

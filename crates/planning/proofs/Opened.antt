@@ -1,5 +1,5 @@
--- What `run` lends and gives: the buffers and the desk before round 1 stand for the state before round 1, and their sizes are those that `drive` asks.
--- Assumes nothing.
+-- What `run` lends and gives: the buffers and the desk before round 1 stand for the state before round 1, and their sizes are those that `drive`
+-- asks. Assumes nothing.
 use mathlib.Core.Path.{_≡_, refl, sym, ap, _∙_, subst}
 use mathlib.Core.List.{List, []}
 use Prim.Native.Nat.{ℕ, suc, _+_, _*_, _≤_, _<_}
@@ -139,8 +139,8 @@ module _ (c : Stored) (fits : Fits c) where
   unfolding jobOf
   carried-listed d i l p =
       let disks = slots-lent in
-      let list : carriedOn (jobOf c) d ≡ carriedIn c d =
-      getD-each (carriedIn c) 0 (c .disks) d [] (omega (arith, disks, l)) ∙ ap (carriedIn c) (let e : 0 + d ≡ d = omega arith in e) in
+      let list : carriedOn (jobOf c) d ≡ carriedIn (c .held) (c .carried) d =
+      getD-each (carriedIn (c .held) (c .carried)) 0 (c .disks) d [] (omega (arith, disks, l)) ∙ ap (carriedIn (c .held) (c .carried)) (let e : 0 + d ≡ d = omega arith in e) in
       let cut = length-take (getD (c .held) d 0) (drop (d * 64) (c .carried)) in
       let long = ap length list in
       sym (ap (λ (x : List ℕ). getD x i 0) list ∙ getD-take (getD (c .held) d 0) (drop (d * 64) (c .carried)) i 0 (omega (arith, cut, long, p))

@@ -22,18 +22,18 @@ pub struct Plans {
     pub sparing: Totals,
 }
 
-// Both plans of a job, each written as a sheet into a buffer of zeros, and the reasons of each, as far as their slices reach. The buffers, the desk and
-// the steps are made once; each plan has a desk of its own.
+// Both plans of a job, each written as a sheet into a buffer of zeros, and the reasons of each, as far as their slices reach. The buffers, the desk
+// and the steps are made once; each plan has a desk of its own.
 pub fn run(
     job: Job,
-    short: &mut [u8],
-    sparing: &mut [u8],
+    short_sheet: &mut [u8],
+    sparing_sheet: &mut [u8],
     short_reasons: &mut [u8],
     sparing_reasons: &mut [u8],
 ) -> Plans
-    requires { ⌜ Fits job × (now short ≡ replicate 40968 0) × (now sparing ≡ replicate 40968 0) ⌝ }
-    ensures { λ r. ⌜ (r ≡ plansOf (jobOf job)) × (now (short .exit) ≡ bytes 40968 (sheetBits (scheduleOf (ruleOf Short) (jobOf job))))
-        × (now (sparing .exit) ≡ bytes 40968 (sheetBits (scheduleOf (ruleOf Sparing) (jobOf job))))
+    requires { ⌜ Fits job × (now «short_sheet» ≡ replicate 40968 0) × (now «sparing_sheet» ≡ replicate 40968 0) ⌝ }
+    ensures { λ r. ⌜ (r ≡ plansOf (jobOf job)) × (now («short_sheet» .exit) ≡ bytes 40968 (sheetBits (scheduleOf (ruleOf Short) (jobOf job))))
+        × (now («sparing_sheet» .exit) ≡ bytes 40968 (sheetBits (scheduleOf (ruleOf Sparing) (jobOf job))))
         × (now («short_reasons» .exit) ≡ laid (reasonsOf (planOf (ruleOf Short) (jobOf job))) (now («short_reasons» .entry)))
         × (now («sparing_reasons» .exit) ≡ laid (reasonsOf (planOf (ruleOf Sparing) (jobOf job))) (now («sparing_reasons» .entry))) ⌝ }
 {
@@ -52,7 +52,7 @@ pub fn run(
     lookup::open(refs, &disk, &mut desk, &mut steps);
     opening::carry(b, &blocks, disks, refs, &steps, &mut desk);
     let mut first = desk;
-    let a = driving::drive(
+    let short = driving::drive(
         b,
         n,
         slots,
@@ -60,10 +60,10 @@ pub fn run(
         Rule::Short,
         &steps,
         &mut first,
-        short,
+        short_sheet,
         short_reasons,
     );
-    let c = driving::drive(
+    let sparing = driving::drive(
         b,
         n,
         slots,
@@ -71,11 +71,8 @@ pub fn run(
         Rule::Sparing,
         &steps,
         &mut desk,
-        sparing,
+        sparing_sheet,
         sparing_reasons,
     );
-    Plans {
-        short: a,
-        sparing: c,
-    }
+    Plans { short, sparing }
 }

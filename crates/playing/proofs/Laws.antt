@@ -17,8 +17,9 @@ use Rattle.model.proofs.Counting.{count-drop}
 use Rattle.model.proofs.Buffers.{load-own, load-elsewhere}
 use Rattle.model.proofs.Plans.{each-more}
 use Rattle.model.proofs.Carried.{marked-more, markedAll-more}
+use Rattle.job.specs.Meaning.{carriedIn}
 use Rattle.playing.specs.declared.Buffers.{Buffers}
-use Rattle.playing.specs.Playing.{carriedLists, carryingBuffers, fetchInto, discardFrom, replaceIn, consumeOne, readOnFrom, Holds, acted, readOne}
+use Rattle.playing.specs.Playing.{carryingBuffers, fetchInto, discardFrom, replaceIn, consumeOne, readOnFrom, Holds, acted, readOne}
 
 -- The blocks carried in, marked one by one and disk by disk.
 
@@ -33,14 +34,14 @@ mark-next marks resident blocks from i room h =
     ∙ ap (λ (n : ℕ). marked marks (take n (drop from blocks))) (let e : suc i ≡ i + 1 = omega arith in e)
 
 pub carry-next : (held blocks : List ℕ) (d : ℕ) (before after : List Bool) → before ≡ carryingBuffers d held blocks .resident
-    → after ≡ marked before (take (getD held d 0) (drop (d * 64) blocks)) → after ≡ carryingBuffers (d + 1) held blocks .resident
+    → after ≡ marked before (carriedIn held blocks d) → after ≡ carryingBuffers (d + 1) held blocks .resident
 unfolding carryingBuffers
 carry-next held blocks d before after h e =
-    e ∙ ap (λ (m : List Bool). marked m (take (getD held d 0) (drop (d * 64) blocks))) h
-    ∙ sym (markedAll-more noneResident (carriedLists d held blocks) (take (getD held d 0) (drop (d * 64) blocks)))
-    ∙ ap (markedAll noneResident) (ap (λ (n : ℕ). carriedLists d held blocks ++ (take (getD held n 0) (drop (n * 64) blocks) ∷ []))
-    (let z : d ≡ 0 + d = omega arith in z) ∙ sym (each-more (λ (n : ℕ). take (getD held n 0) (drop (n * 64) blocks)) 0 d))
-    ∙ ap (λ (n : ℕ). markedAll noneResident (carriedLists n held blocks)) (let z : suc d ≡ d + 1 = omega arith in z)
+    e ∙ ap (λ (m : List Bool). marked m (carriedIn held blocks d)) h
+    ∙ sym (markedAll-more noneResident (each (carriedIn held blocks) 0 d) (carriedIn held blocks d))
+    ∙ ap (markedAll noneResident) (ap (λ (n : ℕ). each (carriedIn held blocks) 0 d ++ (carriedIn held blocks n ∷ []))
+    (let z : d ≡ 0 + d = omega arith in z) ∙ sym (each-more (carriedIn held blocks) 0 d))
+    ∙ ap (λ (n : ℕ). markedAll noneResident (each (carriedIn held blocks) 0 n)) (let z : suc d ≡ d + 1 = omega arith in z)
 
 pub carry-none : (held blocks : List ℕ) → replicate 512 false ≡ carryingBuffers 0 held blocks .resident
 unfolding carryingBuffers noneResident

@@ -42,14 +42,14 @@ module _ (c : Stored) (h : Fits c) where
   unfolding startBuffers
   started e f = f ∙ ap (λ (x : Buffers). readOnFrom x (take (c .count) (c .refs))) e
 
-  counted : (d : ℕ) → d < c .disks → length (getD (each (carriedIn c) 0 (c .disks)) d []) ≡ getD (c .held) d 0
+  counted : (d : ℕ) → d < c .disks → length (getD (each (carriedIn (c .held) (c .carried)) 0 (c .disks)) d []) ≡ getD (c .held) d 0
   counted d l =
       let cut = length-take (getD (c .held) d 0) (drop (d * 64) (c .carried)) in
       let left = length-drop (d * 64) (c .carried) in
       let long = h .longCarried in
       let small = h .smallHeld d in
       let few = h .fewDisks in
-      ap length (getD-each (carriedIn c) 0 (c .disks) d [] l ∙ ap (carriedIn c) (let e : 0 + d ≡ d = omega arith in e))
+      ap length (getD-each (carriedIn (c .held) (c .carried)) 0 (c .disks) d [] l ∙ ap (carriedIn (c .held) (c .carried)) (let e : 0 + d ≡ d = omega arith in e))
       ∙ omega (arith, cut, left, long, small, few, l)
 
   pub holds-start : Holds (jobOf c) (startBuffers c) (start (jobOf c))

@@ -8,17 +8,14 @@ use lib.ListN.{length, getD, set, take, drop}
 use Rattle.model.specs.Job.{Job, diskCount}
 use Rattle.model.specs.Playing.{Action, State, noneResident, load, act, consumed, markedAll}
 use Rattle.model.specs.Plans.{each}
+use Rattle.job.specs.Meaning.{carriedIn}
 use Rattle.job.specs.declared.Job.{Job as Stored}
 use Rattle.playing.specs.declared.Buffers.{Buffers}
 
--- L9: the blocks carried in on each disk: of disk d as many as `held` says, from the place d * 64 on.
-abbrev pub carriedLists : ℕ → List ℕ → List ℕ → List (List ℕ)
-carriedLists disks held blocks = each (λ d. take (getD held d 0) (drop (d * 64) blocks)) 0 disks
-
--- These are in the buffers, and nothing is read.
+-- L9: the blocks carried in on each disk are in the buffers, and nothing is read.
 unfoldable pub carryingBuffers : ℕ → List ℕ → List ℕ → Buffers
 unfolding each noneResident markedAll
-carryingBuffers disks held blocks = record { resident = markedAll noneResident (carriedLists disks held blocks); held = held; next = 0 }
+carryingBuffers disks held blocks = record { resident = markedAll noneResident (each (carriedIn held blocks) 0 disks); held = held; next = 0 }
 
 -- A block enters the buffer of a disk.
 unfoldable pub fetchInto : Buffers → ℕ → ℕ → Buffers

@@ -16,7 +16,7 @@ use Rattle.model.specs.Ticket.{carriedFields}
 use Rattle.model.proofs.CarriedFields.{fields-wrote}
 use Rattle.job.specs.Meaning.{padTo, rowsOf}
 use Rattle.job.proofs.Laws.{sets-zeros}
-use Rattle.carried.specs.Carried.{Carried, carriedAt}
+use Rattle.carried.specs.Carried.{Carried, carriedParts}
 use Rattle.entries.specs.declared.Part.{Part}
 use Rattle.carried.proofs.Rows.{rows-written}
 use Rattle.carried.proofs.CarriedParts.{AllRead, complete, ended, all-read}
@@ -39,7 +39,7 @@ module _ (t : List ℕ) {p q : Part} (e : p ≡ q) where
 
 -- where the parts of all disks were read, the last one ends within 8 * 583 bits
 pub all-near : (t disks : List ℕ) (at : ℕ) (slots held table : List ℕ) {p : Part} → Below 65 slots → length slots ≤ 8
-    → p ≡ carriedAt t disks at 0 slots held table .part → p .number ≡ 0 → p .next ≤ at + 4664
+    → p ≡ carriedParts t disks at 0 slots held table .part → p .number ≡ 0 → p .next ≤ at + 4664
 all-near t disks at slots held table {p} small few e z = go (all-read t disks at 0 slots held table small) e
   where
     go : {c : Carried} {l : Read (List (List ℕ))} → AllRead t at 0 slots held table l c → p ≡ c .part → p .next ≤ at + 4664
@@ -61,7 +61,7 @@ pub record Ended (t slots disks refs : List ℕ) (at : ℕ) (held table : List �
 
 -- what is read into tables of zeros
 abbrev pub endPart : (t slots disks : List ℕ) (at : ℕ) → Carried
-endPart t slots disks at = carriedAt t disks at 0 slots (replicate 8 0) (replicate 512 0)
+endPart t slots disks at = carriedParts t disks at 0 slots (replicate 8 0) (replicate 512 0)
 
 module _ (t slots disks refs : List ℕ) (at : ℕ) (small : Below 65 slots) where
   -- the parts of all disks, beside what the reader reads of them

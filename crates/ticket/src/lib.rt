@@ -8,7 +8,7 @@ ghost use mathlib.Core.Path.{_≡_};
 ghost use Prim.Native.Nat.{_≤_, _<_};
 ghost use lib.ListN.{length};
 ghost use Rattle.bits.specs.Bits.{Below};
-ghost use Rattle.carried.specs.Carried.{carriedAt};
+ghost use Rattle.carried.specs.Carried.{carriedParts};
 ghost use Rattle.ticket.specs.Meaning.{noTicket, ticketRead, stopNumber};
 ghost use Rattle.ticket.specs.Rows.{diskRow, refRow};
 ghost use Rattle.ticket.specs.Ending.{Ends};
@@ -108,7 +108,7 @@ fn end_number(
 ) -> usize
     requires { ⌜ (at < 60000) × (length (now slots) ≤ 8) × Below 65 (now slots) × (length (now disk) ≤ 512) ⌝ }
     ensures { λ r. ⌜ Ends (now (t .entry))
-        (carriedAt (now (t .entry)) (now (disk .entry)) at 0 (now (slots .entry)) (now (held .entry)) (now (carried .entry)))
+        (carriedParts (now (t .entry)) (now (disk .entry)) at 0 (now (slots .entry)) (now (held .entry)) (now (carried .entry)))
         r (now (held .exit)) (now (carried .exit)) ⌝ }
 {
     let part = carried_part(t, at, slots, disk, held, carried);

@@ -4,7 +4,7 @@ use mathlib.Core.Path.{_≡_, sym, ap, _∙_}
 use native.Mathlib.Omega.{arith}
 use denote.Ref.{now}
 use Rattle.entries.specs.Parts.{entryAt}
-use Rattle.carried.specs.Carried.{carriedRow, ofDisk}
+use Rattle.carried.specs.Carried.{carriedRow, blocksOn}
 use Rattle.entries.specs.declared.Row.{Row}
 use Rattle.entries.proofs.Entries.{entry-within}
 use Rattle.entries.proofs.Filling.{part-entries, part-refused}
@@ -44,14 +44,14 @@ returns c =
     let count = c .before .before .before in
     let read = count .before .before in
     let a = read .before .before .before .before .args in
-    part-entries (now (a .t)) (a .at) (carriedRow (a .slots)) (ofDisk (now (a .t)) (now (a .disk)) (a .d)) _ (now (a .carried))
+    part-entries (now (a .t)) (a .at) (carriedRow (a .slots)) (blocksOn (now (a .t)) (now (a .disk)) (a .d)) _ (now (a .carried))
     (sym (entry read) ∙ count .count .given .1) (c .fill-blocks .ensures)
 
 returns-2 : tie.Need-returns-2
 returns-2 c =
     let read = c .before .before .before in
     let a = read .before .before .before .before .args in
-    part-refused (now (a .t)) (a .at) (carriedRow (a .slots)) (ofDisk (now (a .t)) (now (a .disk)) (a .d)) _ (now (a .carried))
+    part-refused (now (a .t)) (a .at) (carriedRow (a .slots)) (blocksOn (now (a .t)) (now (a .disk)) (a .d)) _ (now (a .carried))
     (sym (entry read) ∙ c .before .number .given .1)
 
 pub disk-part-spec : {M : Type 1} → statement M

@@ -5,7 +5,7 @@ use Prim.Native.Nat.{_-_, _*_, _<_}
 use native.Mathlib.Omega.{arith}
 use lib.Dec.{lit≤}
 use denote.Ref.{now}
-use Rattle.carried.specs.Carried.{blockAt, ofDisk}
+use Rattle.carried.specs.Carried.{blockAt, blocksOn}
 use Rattle.entries.specs.declared.Entry.{Entry}
 use Rattle.entries.proofs.Filling.{Going, going-start, going-on, going-stopped, going-whole}
 use Rattle.carried.proofs.Blocks.{block-within}
@@ -13,7 +13,7 @@ use Rattle.carried.proofs.fill_blocks.Statement.{statement}
 use Rattle.carried.proofs.fill_blocks.Tie as tie
 
 abbrev Inv-loop : tie.InvT-loop
-Inv-loop t at disk d count carried₀ end next₀ least₀ i₀ carried next least i = Going (ofDisk t disk d) count at (d * 64) carried₀ next least i carried
+Inv-loop t at disk d count carried₀ end next₀ least₀ i₀ carried next least i = Going (blocksOn t disk d) count at (d * 64) carried₀ next least i carried
 
 abbrev μ-loop : tie.MeasureT-loop
 μ-loop t at disk d count carried₀ end next₀ least₀ i₀ carried next least i = end - i
@@ -44,7 +44,7 @@ mul-i c = omega arith
 loop-holds : tie.Need-loop-holds Inv-loop μ-loop
 loop-holds c =
     let a = c .before .before .args in
-    going-start (ofDisk (now (a .t)) (now (a .disk)) (a .d)) (a .count) (a .at) (a .d * 64) (now (a .carried))
+    going-start (blocksOn (now (a .t)) (now (a .disk)) (a .d)) (a .count) (a .at) (a .d * 64) (now (a .carried))
 
 block-at-requires : tie.Need-block-at-requires Inv-loop μ-loop
 block-at-requires c κs = omega arith

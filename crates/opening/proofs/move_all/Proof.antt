@@ -1,4 +1,5 @@
--- `move_all` meets its contract. The invariant: the pointers of the disks below d have moved on. The measure is the number of disks left. Assumes nothing.
+-- `move_all` meets its contract. The invariant: the pointers of the disks below d have moved on. The measure is the number of disks left. Assumes
+-- nothing.
 use mathlib.Core.Path.{_≡_, refl, ap, _∙_}
 use Prim.Native.Nat.{ℕ, _-_, _≤_}
 use native.Mathlib.Omega.{arith}

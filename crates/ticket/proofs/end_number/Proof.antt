@@ -7,7 +7,7 @@ use native.Mathlib.Omega.{arith}
 use borrow.Author.Tests.{not-true, not-false}
 use denote.Ref.{now}
 use Rattle.entries.specs.declared.Part.{Part}
-use Rattle.carried.specs.Carried.{carriedAt}
+use Rattle.carried.specs.Carried.{carriedParts}
 use Rattle.ticket.proofs.Ending.{endNumber-refused, endNumber-open, endNumber-closed, all-near}
 use Rattle.ticket.proofs.end_number.Statement.{statement}
 use Rattle.ticket.proofs.end_number.Tie as tie
@@ -19,7 +19,7 @@ ticket c = now (c .before .before .before .before .before .before .args .t)
 abbrev read : tie.After-carried-part → Part
 read c =
     let a = c .before .before .before .before .before .before .args in
-    carriedAt (now (a .t)) (now (a .disk)) (a .at) 0 (now (a .slots)) (now (a .held)) (now (a .carried)) .part
+    carriedParts (now (a .t)) (now (a .disk)) (a .at) 0 (now (a .slots)) (now (a .held)) (now (a .carried)) .part
 
 carried-part-requires : tie.Need-carried-part-requires
 carried-part-requires c κs = search needs
