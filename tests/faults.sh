@@ -9,13 +9,13 @@ dir=$build/fault
 missed=0
 tried=0
 
-# build SCRIPT [REFERENCE [TEST]] - the differential test, linked with the changed library.
+# build SCRIPT [REFERENCE [TEST [DRAW]]] - the differential test, linked with the changed library.
 build() {
     rm -rf "$dir" && mkdir -p "$dir" || exit 2
     sed -E "$1" reference/reference.c >"$dir/reference.c"
     sed -E "$1" standin.c >"$dir/standin.c"
     $cc -std=c11 "-I$dir" -Ireference -I../include -c "$dir/standin.c" -o "$dir/standin.o" &&
-        $cc "${3:-$build/differential.o}" "$build/draw.o" "$build/chance.o" "${2:-$build/reference.o}" \
+        $cc "${3:-$build/differential.o}" "${4:-$build/draw.o}" "$build/chance.o" "${2:-$build/reference.o}" \
             "$dir/standin.o" -o "$dir/differential"
 }
 
@@ -63,6 +63,19 @@ header() {
         missed=$((missed + 1))
     else
         verdict "$1, in the header" "$2"
+    fi
+}
+
+# undrawn NAME WORDS SCRIPT - draw.c changed, and a library without a fault: the test must fail at its end, and have these words in what it met.
+undrawn() {
+    tried=$((tried + 1))
+    rm -rf "$dir.draw" && mkdir -p "$dir.draw" && sed -E "$3" draw.c >"$dir.draw/draw.c" || exit 2
+    if cmp -s draw.c "$dir.draw/draw.c" || ! $cc -std=c11 -I. -c "$dir.draw/draw.c" -o "$dir.draw/draw.o" ||
+        ! build '' "$build/reference.o" "$build/differential.o" "$dir.draw/draw.o"; then
+        echo "BROKEN  $1, in the draws"
+        missed=$((missed + 1))
+    else
+        verdict "$1, in the draws" "$2"
     fi
 }
 
@@ -392,6 +405,15 @@ header 'eleven bits of N' 'planner_references gives' 's/(14 \+ 7 .* \* blocks), 
 header 'the bits there are, where the bytes end' 'planner_references gives' 's/^            return 0;/            return value;/'
 header 'one block is passed over too many' 'planner_references gives' 's/3 \* blocks, 12\)/3 * blocks + 3, 12)/'
 header 'a byte past the ticket read' 'planner_references gives\|STOPPED' 's/bit \/ 8 >= ticket_length/bit \/ 8 > ticket_length/'
+
+# Draws of no carried blocks, or not of every kind
+in_drawing='/^static void draw_carried/,/^}/'
+undrawn 'nothing is carried in' 'carried in, in planner_plan: .* not next 0, .* in part 0, to the stop 0, a disk full 0,' \
+    "${in_drawing}s/how = below\\(c, 6\\)/how = 6/"
+undrawn 'carried blocks are never the next' 'carried in, in planner_plan: .* not next [1-9].* in part 0, to the stop 0,' \
+    's/^    if \(!job->carried\[b\] && /    if ((job->references == 0 || b != job->reference[0]) \&\& /'
+undrawn 'no disk is full of carried blocks' 'carried in, in planner_plan: .* in part [1-9].* a disk full 0,' \
+    's/held\[d\] < job->slots\[d\]\) \{/held[d] + 1 < job->slots[d]) {/'
 
 echo "$tried faults, $missed not caught"
 [ "$missed" -eq 0 ]

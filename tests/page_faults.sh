@@ -101,5 +101,30 @@ fault 'a status that is not 0' 'page ends with status 3' 's/^        page\(\);/ 
 fault 'no reference counts' 'page prints' 's/ref_page\(ticket, n, ref_references\(ticket, n\)/ref_page(ticket, n, 0/'
 fault 'all references but one count' 'page prints' 's/ref_page\(ticket, n, ref_references\(ticket, n\)/ref_page(ticket, n, ref_references(ticket, n) - 1/'
 
+# undrawn NAME WORDS SCRIPT - draw.c changed, and programs without a fault: the test must fail at its end, and have these words in what it met.
+build '' || exit 2
+undrawn() {
+    tried=$((tried + 1))
+    sed -E "$3" draw.c >"$dir/draw.c"
+    if cmp -s draw.c "$dir/draw.c" || ! $cc -std=c11 -I. -c "$dir/draw.c" -o "$dir/draw.o"; then
+        echo "BROKEN  $1, in the draws"
+        missed=$((missed + 1))
+        return
+    fi
+    $cc "$build/pages.o" "$build/running.o" "$dir/draw.o" "$build/answer.o" "$build/chance.o" "$build/reference.o" "$build/note.o" \
+        -o "$dir/pages" || exit 2
+    timeout 60 "$dir/pages" "$dir/cases" "$dir/page" 1 "$count" >"$dir/report" 2>&1
+    if [ $? -ne 1 ] || ! grep -q "$2" "$dir/report"; then
+        echo "MISSED  $1, in the draws"
+        missed=$((missed + 1))
+    fi
+}
+
+# Draws of no carried blocks, or not of every kind
+in_drawing='/^static void draw_carried/,/^}/'
+undrawn 'nothing is carried in' 'carried in: nothing [0-9]*, .* in part 0,' "${in_drawing}s/how = below\\(c, 6\\)/how = 6/"
+undrawn 'every job carries blocks in' 'carried in: nothing 0,' \
+    "${in_drawing}s/^\\}/    carry(job, held, first);\\n}/;s/^    if \\(!largest\\)\$/    ;/"
+
 echo "$tried faults of pages, $missed not caught"
 [ "$missed" -eq 0 ]

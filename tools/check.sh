@@ -239,7 +239,8 @@ passes()
 # Blocks that a disk carries in, in texts: good ones, then the numbers 25 and 26, then those without a number.
 carried()
 {
-    text 'in any order, in ranges, on several lines' "$(printf 'disk 0 slots 5 blocks 0-7\n  carried 6 0-2\ncarried 4 # at most 5\ndisk 1 slots 1\nread 3')"
+    text 'in any order, in ranges, on several lines' \
+        "$(printf 'disk 0 slots 5 blocks 0-7\n  carried 6 0-2\ncarried 4 # at most 5\ndisk 1 slots 1\nread 3')"
     run ticket -d "$out/ticket"
     text 'every block in a slot' "$(printf 'disk 0 slots 2 blocks 1 3\ncarried 3 1\ndisk 1 slots 64 blocks 0 2\ncarried 0 2')"
     run ticket -d "$out/ticket"
@@ -253,24 +254,48 @@ carried()
     text '26: a block of a disk below' "$(printf 'disk 0 slots 4 blocks 0-3\ncarried 3-4\ndisk 1 slots 4 blocks 4-7')"
     text '26: a block that is not there' "$(printf 'disk 0 slots 4 blocks 0-3\ncarried 4')"
     text '26: block 512' "$(printf 'disk 0 slots 4 blocks 0-3\ncarried 512')"
+    text '26: a number of eight digits' "$(printf 'disk 0 slots 2 blocks 0-3\n carried 12345678')"
+    text '26: a range from block 511 on' "$(printf 'disk 0 slots 2 blocks 0-511\ncarried 511-512')"
     text 'before the first disk' 'carried 0'
     text 'blocks placed after it' "$(printf 'disk 0 slots 4 blocks 0-2\ncarried 0\nblocks 3')"
     text 'after a read' "$(printf 'disk 0 slots 4 blocks 0-3\nread 0\ncarried 1')"
     text 'a range backwards' "$(printf 'disk 0 slots 4 blocks 0-3\ncarried 3-0')"
     text 'in words' "$(printf 'disk 0 slots 4 blocks 0-3\ncarried none')"
     text 'in the line of the disk' 'disk 0 slots 4 blocks 0-3 carried 0'
+    text 'in the line of the disk, without blocks' 'disk 0 slots 4 carried 0'
+    text 'a read in its line' "$(printf 'disk 0 slots 4 blocks 0-3\ncarried 0 read 1')"
+    text 'a disk in its line' "$(printf 'disk 0 slots 4 blocks 0-3\ncarried 0 disk 1 slots 1')"
+    text 'in the line of a read' "$(printf 'disk 0 slots 4 blocks 0-3\nread 0 carried 1')"
+    text 'passes in the line of a read' "$(printf 'disk 0 slots 4 blocks 0-3\nread 0 passes 1')"
 }
 
-# Sheets for tickets with carried blocks. The job `held` reads 1 and 0 before round 1, then needs block 2. In `never` the slots are taken by blocks that
-# are never read. In `one` disk 0 has an empty slot, and disk 1 carries in none.
+# The longest sheet: in each of 2048 rounds each of 8 disks, whose one slot carries in block 2d, fetches the other of its two blocks, 2d + 1 first.
+# Only from full slots does a sheet discard in round 1.
+longest_sheet()
+{
+    awk 'BEGIN {
+        printf "800"
+        for (k = 0; k < 2048; k++) for (d = 0; d < 8; d++) printf "%05x", 524288 + 1024 * (2 * d + 1 - k % 2) + 512 + 2 * d + k % 2
+        print "0"
+    }'
+}
+
+# Sheets for tickets with carried blocks. The job `held` reads 1 and 0 before round 1, then needs block 2. In `never` the slots are taken by blocks
+# that are never read. In `one` disk 0 has an empty slot, and disk 1 carries in none. In `three` disk 2 carries in the most blocks, 511 among them.
+# In `long` each round reads one reference.
 starts()
 {
     held=$(printf 'disk 0 slots 2 blocks 0-2\ncarried 0 1\nread 1 0 2 1' | ticket | hex)
     never=$(printf 'disk 0 slots 2 blocks 0-3\ncarried 2 3\nread 0 1' | ticket | hex)
     one=$(printf 'disk 0 slots 2 blocks 0 1\ncarried 1\ndisk 1 slots 1 blocks 2\nread 1 0 2 1' | ticket | hex)
+    three=$(printf '%s\n' 'disk 0 slots 2 blocks 0-255' 'carried 255' 'disk 1 slots 3 blocks 256-300' 'carried 256 300' \
+        'disk 2 slots 4 blocks 301-511' 'carried 400 509-511' 'read 511 256 255 401 510 0 511 301' | ticket | hex)
+    long=$({ for d in 0 1 2 3 4 5 6 7; do printf 'disk %d slots 1 blocks %d %d\ncarried %d\n' "$d" $((2 * d)) $((2 * d + 1)) $((2 * d)); done
+        echo 'passes (1 0)*1024'; } | ticket | hex)
     show 'a carried block makes room' "$held" 00180a00
     show 'the next read is carried in, disk 1 is empty' "$one" 0018010100
     show 'slots taken by blocks that are never read' "$never" 00280203806020
+    show 'three disks, the last one full, up to block 511' "$three" 002800e47fd32dff80
     show 'all is read before round 1' "$held" 0000 -s 2
     show 'the same, with a fetch and an idle round, which are not charged' "$held" 00280a0000 -s 2
     show 'an idle round, which is charged' "$held" 0024050000
@@ -286,6 +311,12 @@ starts()
     show '15: no rounds' "$held" 0000
     show '16: a byte more' "$held" 000000 -s 2
     show '20: a discard beside an empty slot' "$one" 00180201
+    ends 'the longest sheet' "$long" "$(longest_sheet)" 11
+    wc -c <"$out/sheet" | tr -d ' '
+    echo '== 16: the longest sheet and a byte more'
+    printf '\0' >>"$out/sheet"
+    run eval 'sheet "$out/ticket" "$out/sheet" >"$out/table"'
+    tail -n 1 "$out/table"
     show 'the sheet of the same job without carried blocks' "$CARRIED" "$G_P_MIN"
     show 'a sheet from carried blocks, for the job without them' "$G" 0048090340f01c0503c09014070240f01c04
 }
@@ -327,6 +358,15 @@ tickets()
     back '8: a byte more' 1020080010000000
     back '8: a byte more, past a byte edge' 102008005000000000000000
     show 'a sheet for a damaged ticket' 102009001000 001800
+    echo '== a sheet for the longest ticket'
+    longest_text | ticket - "$out/ticket"
+    unhex 0000 >"$out/sheet"
+    run eval 'sheet "$out/ticket" "$out/sheet" | tail -n 9'
+    echo '== 8: the longest ticket and a byte more'
+    printf '\0' >>"$out/ticket"
+    run ticket -d "$out/ticket"
+    echo '== 8: the same, with a sheet'
+    run sheet "$out/ticket" "$out/sheet"
 }
 
 # Damaged sheets, in the order of the numbers 9 to 16 and 20, and names that do not fit.

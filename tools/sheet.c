@@ -25,7 +25,7 @@ struct play {
     unsigned fetches[MAX_DISKS];
     unsigned stop;             /* how many references count */
     unsigned next_read;
-    unsigned charged;          /* the last round in which a reference was consumed, 0 if none was */
+    unsigned charged;          /* the last round in which a reference was consumed, 0 if none was in a round */
     int width;                 /* of a disk's column */
 };
 

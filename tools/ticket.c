@@ -86,6 +86,17 @@ static unsigned digits(const char **s)
     return value;
 }
 
+/* Ends the program for a word that is not what is due; why has a place for the word. */
+static _Noreturn void not_due(const struct text *t, const char *why)
+{
+    static const char *const starts[] = {"disk", "carried", "read", "passes"};
+
+    for (unsigned k = 0; k < sizeof starts / sizeof starts[0]; k++)
+        if (strcmp(t->word, starts[k]) == 0)
+            why = "'%s' begins a line of its own";
+    fail(t->line, 0, why, t->word);
+}
+
 /* The word as one number. */
 static unsigned number(const struct text *t)
 {
@@ -93,7 +104,7 @@ static unsigned number(const struct text *t)
     unsigned value = digits(&s);
 
     if (s == t->word || *s != '\0')
-        fail(t->line, 0, "'%s' is not a number", t->word);
+        not_due(t, "'%s' is not a number");
     return value;
 }
 
@@ -110,7 +121,7 @@ static void range(const struct text *t, unsigned *first, unsigned *last)
             s = t->word;
     }
     if (s == t->word || *s != '\0')
-        fail(t->line, 0, "'%s' is neither a number nor a range", t->word);
+        not_due(t, "'%s' is neither a number nor a range");
     if (*first > *last)
         fail(t->line, 0, "the range %s runs backwards", t->word);
 }
@@ -154,6 +165,9 @@ static void carry(const struct text *t, struct job *job, unsigned b)
     if (carried_on(job, d) == job->slots[d])
         fail(t->line, 25, "disk %u has %u slot%s, and carries in more blocks with '%s'", d,
              job->slots[d], job->slots[d] == 1 ? "" : "s", t->word);
+    if (b >= MAX_BLOCKS)
+        fail(t->line, 26, "disk %u carries in '%s', which is past block %d", d, t->word,
+             MAX_BLOCKS - 1);
     if (b >= job->blocks || job->disk_of[b] != d)
         fail(t->line, 26, "disk %u carries in block %u, which is not among its blocks above", d, b);
     if (job->carried[b])
@@ -198,7 +212,7 @@ static void disk(struct text *t, struct job *job)
     if (!next_word(t))
         return;
     if (strcmp(t->word, "blocks") != 0)
-        fail(t->line, 0, "the word 'blocks' is due, not '%s'", t->word);
+        not_due(t, "the word 'blocks' is due, not '%s'");
     blocks(t, job);
 }
 
@@ -266,10 +280,11 @@ static void passes(struct text *t, struct job *job)
     struct refusal refusal;
     char *rest;
     size_t length = rest_of_line(t, &rest);
+    bool good = read_note(rest, length, &note, &refusal);
 
-    if (!read_note(rest, length, &note, &refusal))
-        fail(t->line, refusal.number, "%s", refusal.why);
     free(rest);
+    if (!good)
+        fail(t->line, refusal.number, "%s", refusal.why);
     for (unsigned i = 0; i < note.references; i++) {
         snprintf(t->word, sizeof t->word, "%u", note.reference[i]);
         add_reference(t, job, note.reference[i]);

@@ -1,7 +1,7 @@
-# mutants.sh - wrong planners, each of which the vectors or the search must catch.
+# mutants.sh - wrong planners, each of which the vectors or the search must catch, and searches that draw too little, which must say so.
 #
 # usage: sh mutants.sh BUILD     (BUILD has vectors.o, answer.o, exhaustive.o, small_notes.o, chance.o, reference.o and note.o)
-# A mutant is a copy of reference.c, or of note.c, changed by a sed script, in BUILD/mutant.
+# A mutant is a copy of reference.c, of note.c or of exhaustive.c, changed by a sed script, in BUILD/mutant.
 cd "$(dirname "$0")" || exit 2
 cc=${CC:-cc}
 build=$1
@@ -41,6 +41,11 @@ mutant() {
 # searched NAME SCRIPT WORDS - a wrong reference that the search must catch, with these words.
 searched() {
     trial reference note "$1" "$2" exhaustive "$3" 1 10000
+}
+
+# undrawn NAME SCRIPT WORDS - a search that does not draw every kind of job; it must fail at its end, and have these words in what it met.
+undrawn() {
+    trial exhaustive note "$1" "$2" reference "$3" 1 2000
 }
 
 # waited NAME SCRIPT - a wrong reference that the vectors of long waits must catch, by themselves.
@@ -270,6 +275,14 @@ never_tie='l->distance[b] == l->distance[v->min_block]'
 carried_nevers=$(last_of "($never_tie ? job->carried[b] - job->carried[v->min_block] : 0)")
 carried_nevers_short="s/^struct view \\{/static enum ref_rule now;\\n\\n&/;s/^    survey\\(job, &r.*/    now = rule;\\n&/
     $(last_of "(now == REF_P_MIN \\&\\& job->disks == 1 \\&\\& $never_tie ? job->carried[b] - job->carried[v->min_block] : 0)")"
+# P-CON's plan is made anew where the page is of P-MIN; and a run that is not of planning is charged a round more. No search sees either: only the
+# rest of a plan, by ref_run alone, shows it.
+carried_nevers_sparing="s/^struct view \\{/static bool otherwise;\\n\\n&/
+    ${in_planning}s/^    p->mark = .*/&\\n    otherwise = p->mark == 0;\\n\
+    ref_run(\\&drawn->job, REF_P_CON, drawn->schedule[1], \\&p->counts[1]);\\n    otherwise = false;/
+    $(last_of "(otherwise \\&\\& $never_tie ? job->carried[b] - job->carried[v->min_block] : 0)")"
+one_more_alone="s/^struct view \\{/static bool planning;\\n\\n&/;${in_run}s/^    \\}\$/&\\n    counts->charged += !planning;/
+    ${in_planning}{s/^    for \\(int k = 0.*/    planning = true;\\n&/;s/^    for \\(unsigned k = 0.*/    planning = false;\\n&/}"
 
 # late NUMBER WHERE - the script that has 25 or 26 tested later; WHERE is a script that returns late.
 late() {
@@ -738,10 +751,20 @@ searched 'a fetched block goes before any carried one' "$fetched_first" 'NOT THE
 searched 'a carried block goes before any fetched one' "$carried_first" 'NOT THE LEAST'
 searched 'of several nevers a carried one goes first' "$carried_nevers" 'ANOTHER PAGE'
 searched 'of several nevers a carried one goes first in P-MIN, on one disk, where the page is of P-CON' "$carried_nevers_short" 'GOES ON OTHERWISE'
+searched 'of several nevers a carried one goes first in P-CON, where the page is of P-MIN' "$carried_nevers_sparing" 'GOES ON OTHERWISE'
+searched 'a run by itself is charged a round more than in planning' "$one_more_alone" 'GOES ON OTHERWISE'
 searched 'a carried block is a fetch' "$checked_as_fetch;$planned_as_fetch" 'NOT THE LEAST'
 searched 'the reading before round 1 takes a round of a plan' "$round_for_reading" 'NOT THE LEAST'
 searched 'the first round charged though all is read before it' "$(charged 'counts->charged == 0 \&\& job->stop > 0 \&\& written > 0 ? 1 : counts->charged')" 'OTHER COUNTS'
 searched 'a count equal to the slots refused' 's/count > job->slots\[d\]/count >= job->slots[d]/' 'NOT THE LEAST'
+
+# Searches that draw no carried blocks, or not of every kind
+undrawn 'nothing is carried in' \
+    's/\(each \|\| one_in\(c, 2\)\)/false/' 'carry blocks in: 0, none: 2000; read before round 1 in part: 0, to the stop: 0;'
+undrawn 'carried blocks are never the next' 's/^        if \(carried_on\(job, d\) < /        if (b != job->reference[0] \&\& carried_on(job, d) < /' \
+    'carry blocks in: [1-9].* in part: 0, to the stop: 0;'
+undrawn 'no disk is full of carried blocks' 's/carried_on\(job, d\) < job->slots/carried_on(job, d) + 1 < job->slots/' \
+    'full of carried blocks: 0, of such that are never read: 0$'
 
 # Rounds that are charged, and fetches that are counted, otherwise than the search does
 searched 'all rounds written are charged, as before L7' "$all_charged" 'OTHER COUNTS'

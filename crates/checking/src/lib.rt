@@ -58,8 +58,7 @@ fn play(job: Job, sheet: &[u8], rounds: usize) -> Checked
     requires { ⌜ Fits job × (rounds ≤ 2048) ⌝ }
     ensures { λ r. ⌜ r ≡ checkedOf (played (jobOf job) rounds (now (sheet .entry))) ⌝ }
 {
-    let held = job.held;
-    let mut b = Buffers::carrying(job.disks, held, &job.carried).read_on(&job.refs, job.count);
+    let mut b = Buffers::carrying(job.disks, job.held, &job.carried).read_on(&job.refs, job.count);
     let mut fetches = [0u16; 8];
     let mut at = 12;
     let mut k = 0;
