@@ -1,6 +1,7 @@
-# "make -s plan <TICKET" plans a ticket, "make -s page <TICKET" prints its page, "make -s passes <NOTE" the references of a note. "make" builds the
-# archive, the programs, the tools and the examples; "make install" puts header, archive, pkg-config file and programs below PREFIX. Archive and
-# programs are proved before they are written: that needs rt on the path and minutes.
+# "make -s plan <TICKET" plans a ticket, "make -s page <TICKET" prints its page, "make -s passes <NOTE" the references of a note, and
+# "make -s slots DISK=0 ROUNDS=6 <TICKET" how many slots disk 0 needs for 6 rounds. "make" builds the archive, the programs, the tools and the
+# examples; "make install" puts header, archive, pkg-config file and programs below PREFIX. Archive and programs are proved before they are written:
+# that needs rt on the path and minutes.
 
 VERSION = 0.1.0
 PREFIX = /usr/local
@@ -9,7 +10,7 @@ RT = rt
 INSTALL = install
 
 ARCHIVE = target/staticlib/libplanner.a
-PROGRAMS = target/bin/plan target/bin/page target/bin/passes
+PROGRAMS = target/bin/plan target/bin/page target/bin/passes target/bin/slots
 PC = target/c/planner.pc
 SOURCES := crates.txt $(shell find crates -name '*.rt' -o -name '*.antt')
 
@@ -22,7 +23,10 @@ all: $(ARCHIVE) $(PROGRAMS) tools example
 plan page passes: %: target/bin/%
 	@$<
 
-.PHONY: all plan page passes tools example install uninstall check-install clean
+slots: target/bin/slots
+	@$< $(DISK) $(ROUNDS)
+
+.PHONY: all plan page passes slots tools example install uninstall check-install clean
 
 target/staticlib/libplanner.a: $(SOURCES)
 	$(RT) staticlib planner >&2 </dev/null
@@ -50,7 +54,7 @@ uninstall:
 	rm -f $(TO)/include/planner.h $(TO)/lib/libplanner.a $(TO)/lib/pkgconfig/planner.pc $(addprefix $(TO)/bin/,$(notdir $(PROGRAMS)))
 
 # Installs into a folder of its own, builds the example from there as any C program would, and runs it and the programs: the plan of case F, the page
-# of case G, the references of document 02's note.
+# of case G, the references of document 02's note, the slots that disk 0 of case G needs for 5 rounds.
 check-install: tools
 	rm -rf $(TRIAL)
 	$(MAKE) install DESTDIR=$(abspath $(TRIAL))
@@ -61,6 +65,7 @@ check-install: tools
 	for run in plan/F page/G; do \
 	    target/c/tools/ticket tools/cases/$${run#*/}.txt | $(TRIAL)$(PREFIX)/bin/$${run%/*} | cmp - crates/$${run%/*}/stdout || exit 1; done
 	$(TRIAL)$(PREFIX)/bin/passes <crates/passes/stdin | cmp - crates/passes/stdout
+	target/c/tools/ticket tools/cases/G.txt | $(TRIAL)$(PREFIX)/bin/slots 0 5 | cmp - crates/slots/stdout
 	$(MAKE) uninstall DESTDIR=$(abspath $(TRIAL))
 	test -z "$$(find $(TRIAL)$(PREFIX) -type f)"
 	@echo "installed, used through pkg-config, removed"

@@ -2,8 +2,8 @@
  *
  * usage: seeds FOLDER NOTES FILE...
  * Each vector gives inputs, with its ticket and its stop: a check with its sheet twice, a choice with both sheets, a plan that is not refused with
- * the two sheets that it ends in, in both orders, and a refused plan with two empty sheets. A page, which C programs cannot ask for, gives none. They
- * go to FOLDER. A note gives its text, which goes to NOTES. */
+ * the two sheets that it ends in, in both orders, and a refused plan with two empty sheets. A page and a slot count, which C programs cannot ask for,
+ * give none. They go to FOLDER. A note gives its text, which goes to NOTES. */
 #include "input.h"
 
 #include <stdio.h>
@@ -70,7 +70,7 @@ static void take_line(const char *folder, const char *notes_folder, char *line)
     const char *last[4] = {"-", "-", "-", "-"};
     struct part part = {ticket, stop};
 
-    if (call == NULL || call[0] == '#' || sheet == NULL || strcmp(call, "page") == 0)
+    if (call == NULL || call[0] == '#' || sheet == NULL || strcmp(call, "page") == 0 || strcmp(call, "slots") == 0)
         return;
     if (strcmp(call, "note") == 0) {
         write_note(notes_folder, ticket);

@@ -96,7 +96,10 @@ enum planner_number {
     /* the note, in the call that makes references of a note. It is for Rattle callers alone as well: no call of this header returns these numbers. */
     PLANNER_NOTE_MALFORMED = 22,
     PLANNER_NOTE_PARENTHESES = 23,
-    PLANNER_NOTE_REFERENCES = 24
+    PLANNER_NOTE_REFERENCES = 24,
+    /* the disk, after the stop and before 17, in the call that finds the least slot count of a disk. It is for Rattle callers alone as well: no call
+     * of this header returns this number. */
+    PLANNER_SLOTS_DISK = 27
 };
 
 /* The sentence for a number, to be printed after it: at most 80 characters, without a full stop. It is not to be changed or freed. */
@@ -130,6 +133,7 @@ static inline const char *planner_why(uint32_t number)
     case PLANNER_NOTE_MALFORMED:    return "the note is malformed";
     case PLANNER_NOTE_PARENTHESES:  return "the note has more than 16 parentheses open";
     case PLANNER_NOTE_REFERENCES:   return "the note gives more references than 2048, or than its slice has entries";
+    case PLANNER_SLOTS_DISK:        return "the disk whose slots are asked for is not in the ticket";
     default:                        return "no call returns this number";
     }
 }

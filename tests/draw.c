@@ -550,8 +550,7 @@ static size_t damage(struct chance *c, uint8_t *bytes, size_t len)
     }
 }
 
-/* How many blocks a disk carries in. */
-static unsigned carried_on(const struct ref_job *job, unsigned d)
+unsigned carried_on(const struct ref_job *job, unsigned d)
 {
     unsigned count = 0;
 

@@ -23,6 +23,9 @@ size_t draw_stop(struct chance *c, unsigned references);
  * are not above, or any. */
 size_t draw_stop_above(struct chance *c, unsigned references);
 
+/* How many blocks a disk carries in. */
+unsigned carried_on(const struct ref_job *job, unsigned d);
+
 /* A schedule of allowed actions up to the job's stop, but that one in five may discard beside an empty slot, which the
  * check refuses; gives its rounds, at most REF_ROUNDS.
  * FINISHED ends with the round that consumes the last reference before the stop, LATE has rounds

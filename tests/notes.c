@@ -26,7 +26,6 @@ enum { MOST_ROOM = 4096 };     /* entries of a line's room */
 enum { PROGRAM_NOTES = 150 };  /* the program `passes` gets the texts of so many notes */
 enum { MOST_INPUT = 1048576 }; /* it reads so many bytes */
 enum { LONGER = 1000000 };     /* and gets so many more */
-enum { NO_NOTE = -1 };         /* what is tried without a note */
 
 enum damage {
     CHANGED, DROPPED, INSERTED, DOUBLED, SWAPPED, CUT, BYTE, BYTES, BLANK, DIGIT, LIMIT, COUNT,
@@ -47,34 +46,11 @@ enum by { BY_CASES, BY_PASSES, BY_TOOL, READERS };
 static const char *const reader_name[READERS] = {"cases", "passes", "tool"};
 
 static struct {
-    const char *cases, *passes;
-    uint64_t seed, count, first;
-    int64_t note;
     unsigned long met[READERS][NUMBERS];
     unsigned long damaged[DAMAGES], rooms[ROOMS];      /* that gives 22; of a sound note */
     unsigned long deepest, bars, full, too_many;       /* sixteen open; 2048 references, and more */
     unsigned long both;                                /* 22 where 23 falls on the same character */
 } run;
-
-/* ---- Reports ---- */
-
-static void say_replay(void)
-{
-    printf("replay: notes %s %s %" PRIu64, run.cases, run.passes, run.seed);
-    if (run.note == NO_NOTE)
-        printf(" 0\n");
-    else
-        printf(" 1 %" PRId64 "\n", run.note);
-}
-
-/* As much of a text as fits a line. */
-static void print_text(const char *who, const uint8_t *text, size_t len)
-{
-    printf("  %-9s \"", who);
-    for (size_t k = 0; k < len && k < 200; k++)
-        printf(text[k] >= ' ' && text[k] < 127 ? "%c" : "\\x%02x", text[k]);
-    printf("\"%s\n", len > 200 ? ".." : "");
-}
 
 /* ---- Notes drawn by chance ---- */
 
@@ -341,7 +317,7 @@ static void draw_room(struct chance *c, struct asked *a)
 /* As it is, with exact and other rooms; damaged once, and once more or otherwise. */
 static void draw_lines(uint64_t number)
 {
-    struct chance c = chance_for(run.seed, number);
+    struct chance c = chance_for(runs.seed, number);
 
     draw_text(&c, &asked[0].text);
     if (asked[0].text.len < 1000 && one_in(&c, 15))
@@ -394,14 +370,14 @@ static void draw_long_lines(void)
 /* Does the same for the lines of each note, and then for those of the long text. */
 static void each_note(void (*with)(const struct asked *, FILE *), FILE *file)
 {
-    for (uint64_t k = 0; k < run.count; k++) {
-        run.note = (int64_t)(run.first + k);
-        draw_lines(run.first + k);
+    for (uint64_t k = 0; k < runs.count; k++) {
+        runs.draw = (int64_t)(runs.first + k);
+        draw_lines(runs.first + k);
         for (unsigned line = 0; line < LINES; line++)
             with(&asked[line], file);
     }
-    run.note = NO_NOTE;
-    if (run.first != 0)
+    runs.draw = NO_DRAW;
+    if (runs.first != 0)
         return;
     draw_long_lines();
     for (unsigned line = 0; line < LINES; line++)
@@ -474,38 +450,23 @@ static void count(const struct asked *a, const struct ref_noted *noted, unsigned
     run.too_many += number == 24 && noted->count > REF_REFERENCES && a->room > REF_REFERENCES;
 }
 
-/* From where two answers differ on. */
+static const struct asked *tried;      /* whose answer is compared */
+
 static void print_answers(const char *have, const char *want)
 {
-    size_t at = 0;
-
-    while (have[at] != '\0' && have[at] == want[at])
-        at++;
-    while (at > 0 && want[at - 1] != ' ')
-        at--;
-    printf("  %-9s %.80s\n  %-9s %.80s\n", "cases", have + at, "reference", want + at);
+    print_words(have, want);
+    print_text("note", tried->text.at, tried->text.len);
 }
 
 static void compare_line(const struct asked *a, FILE *file)
 {
-    static char call[ANSWER_LINE], parts[ANSWER_LINE], want[ANSWER_LINE];
+    static char call[ANSWER_LINE];
     static struct ref_noted noted;
-    const char *have;
 
     put_call(call, a);
-    strcpy(parts, call);
-    if (!answer(parts, want))
-        exit(2);
+    tried = a;
     ref_read_note(a->text.at, a->text.len, REF_PARENTHESES, &noted);
-    count(a, &noted, strtoul(want, NULL, 10));
-    have = next_answer(file, call);
-    if (strcmp(have, want) != 0) {
-        printf("DISAGREE: cases gives another answer\n");
-        print_answers(have, want);
-        print_text("note", a->text.at, a->text.len);
-        printf("  %s\n", call);
-        fail();
-    }
+    count(a, &noted, strtoul(same_answer(file, call, print_answers), NULL, 10));
     try_tool(&a->text, &noted);
 }
 
@@ -539,8 +500,9 @@ static void try_passes(const uint8_t *input, size_t len)
 {
     static char want[MOST_OUTPUT + 1];
     static uint8_t have[MOST_OUTPUT + 100];
+    const char *const command[] = {runs.program, NULL};
     size_t m = want_output(input, len, want), at = 0;
-    size_t n = output_of(run.passes, "passes", input, len, have, sizeof have);
+    size_t n = output_of(command, "passes", input, len, have, sizeof have);
 
     if (n == m && memcmp(have, want, n) == 0)
         return;
@@ -625,15 +587,15 @@ static void try_long(void)
 
 static void try_program(void)
 {
-    for (uint64_t k = 0; k < run.count && run.first + k < PROGRAM_NOTES; k++) {
-        run.note = (int64_t)(run.first + k);
-        draw_lines(run.first + k);
-        try_with(asked[0].text.at, asked[0].text.len, (unsigned)(run.first + k) % 2);
+    for (uint64_t k = 0; k < runs.count && runs.first + k < PROGRAM_NOTES; k++) {
+        runs.draw = (int64_t)(runs.first + k);
+        draw_lines(runs.first + k);
+        try_with(asked[0].text.at, asked[0].text.len, (unsigned)(runs.first + k) % 2);
         try_with(asked[2].text.at, asked[2].text.len, 1);
-        try_with(asked[3].text.at, asked[3].text.len, (unsigned)(run.first + k) % 3);
+        try_with(asked[3].text.at, asked[3].text.len, (unsigned)(runs.first + k) % 3);
     }
-    run.note = NO_NOTE;
-    if (run.first != 0)
+    runs.draw = NO_DRAW;
+    if (runs.first != 0)
         return;
     for (unsigned k = 0; k < 3; k++)
         try_with((const uint8_t *)"", 0, k);
@@ -676,23 +638,8 @@ static bool all_met(void)
 
 int main(int argc, char **argv)
 {
-    bool all;
-
-    if (argc < 3) {
-        fprintf(stderr, "usage: notes CASES PASSES [SEED [COUNT [FIRST]]]\n");
-        return 2;
-    }
-    run.cases = argv[1];
-    run.passes = argv[2];
-    run.seed = argc > 3 ? strtoull(argv[3], NULL, 10) : 1;
-    run.count = argc > 4 ? strtoull(argv[4], NULL, 10) : 500;
-    run.first = argc > 5 ? strtoull(argv[5], NULL, 10) : 0;
-    begin_running(say_replay);
-    try_lines(run.cases, write_lines, compare_lines);
+    begin_running("notes", argc, argv);
+    try_lines(write_lines, compare_lines);
     try_program();
-    printf("%" PRIu64 " notes agree (seed %" PRIu64 "); numbers met:\n", run.count, run.seed);
-    all = all_met();
-    if (!all && run.first == 0 && run.count > 0)
-        printf("FAIL: a number, a room, a kind of damage or a limit was never met\n");
-    return all || run.first != 0 || run.count == 0 ? 0 : 1;
+    return end_running("notes", all_met, "a number, a room, a kind of damage or a limit");
 }

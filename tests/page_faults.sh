@@ -98,6 +98,8 @@ fault 'no line feed after a refusal' 'page prints 9 bytes, the reference has 10'
 fault 'another number' 'page prints 10 bytes, the reference has 10' 's/printf\("refused %u.n", number\)/printf("refused %u\\n", number == 8 ? 1 : number)/'
 fault 'a longer input cut to the longest ticket' 'page prints 85 bytes, the reference has 10' 's/ticket\[REF_TICKET \+ 1\]/ticket[REF_TICKET]/'
 fault 'a status that is not 0' 'page ends with status 3' 's/^        page\(\);/        return page(), 3;/'
+fault 'one read only' 'page prints' 's/^#include <stdio.h>/&\n#include <unistd.h>/;/^static void page/,/^}/s/fread\(ticket, 1, sizeof ticket, stdin\)/(size_t)read(0, ticket, sizeof ticket)/'
+fault 'something on standard error' 'page writes to standard error' '/^static void page/,/^}/s/^    if \(number == 0\)/    fputs("done\\n", stderr);\n&/'
 fault 'no reference counts' 'page prints' 's/ref_page\(ticket, n, ref_references\(ticket, n\)/ref_page(ticket, n, 0/'
 fault 'all references but one count' 'page prints' 's/ref_page\(ticket, n, ref_references\(ticket, n\)/ref_page(ticket, n, ref_references(ticket, n) - 1/'
 

@@ -3,11 +3,11 @@
  * usage: pages CASES PAGE [SEED [COUNT [FIRST]]]
  * Draws COUNT jobs from number FIRST on (default 0). CASES gets lines `page` of the vectors' form,
  * four for each job, four of the longest page and four of the longest ticket; PAGE, whose stop is N,
- * gets the tickets of the first jobs, these two, and inputs that are longer than a ticket. Ends at the
- * first answer that is not the reference's. Every job's draws depend on the seed and its own number
- * only, so "SEED 1 FIRST" replays one job, and "SEED 0" what is tried without a job. Exit 0 only if all
- * agree and, in a run of jobs from 0 on, every number, kind of stop and of job, letter and mark was
- * met. */
+ * gets the tickets of the first jobs, these two, the longest also in two parts, and inputs that are
+ * longer than a ticket. Ends at the first answer that is not the reference's. Every job's draws depend on
+ * the seed and its own number only, so "SEED 1 FIRST" replays one job, and "SEED 0" what is tried without
+ * a job. Exit 0 only if all agree and, in a run of jobs from 0 on, every number, kind of stop and of job,
+ * letter and mark was met. */
 #include "draw.h"
 #include "reference/answer.h"
 #include "running.h"
@@ -19,7 +19,6 @@
 enum { LINES = 4, NUMBERS = 27, LETTERS = 5 };
 enum { PROGRAM_JOBS = 150 };   /* the program `page` gets the tickets of so many jobs */
 enum { LONGER = 100000 };      /* and so many bytes past a ticket */
-enum { NO_JOB = -1 };          /* what is tried without a job */
 
 enum kind { NONE, BETWEEN, WHOLE, ABOVE, KINDS };      /* stops: 0, in between, N, above N */
 enum longest { OF_PAGES, OF_TICKETS };
@@ -34,24 +33,12 @@ static const char *const carried_name[CARRIED] = {"nothing", "blocks that are no
                                                   "blocks read before round 1 in part", "to the stop"};
 
 static struct {
-    const char *cases, *page;
-    uint64_t seed, count, first;
-    int64_t job;
     unsigned long met[2][NUMBERS];             /* numbers, by cases and by page */
     unsigned long stops[KINDS];                /* of cases, where the answer is 0 or 21 */
     unsigned long letter[LETTERS], mark[2], carried[CARRIED];  /* on the pages of cases */
 } run;
 
 /* ---- Reports ---- */
-
-static void say_replay(void)
-{
-    printf("replay: pages %s %s %" PRIu64, run.cases, run.page, run.seed);
-    if (run.job == NO_JOB)
-        printf(" 0\n");
-    else
-        printf(" 1 %" PRId64 "\n", run.job);
-}
 
 /* A line of a page, as far as it goes. */
 static void print_line(const char *who, const uint8_t *line, size_t len)
@@ -148,7 +135,7 @@ static void plan_drawn(size_t n, size_t stop, size_t *exact)
  * may be above N. */
 static void draw_lines(uint64_t number)
 {
-    struct chance c = chance_for(run.seed, number);
+    struct chance c = chance_for(runs.seed, number);
     struct ref_job *job = &drawn.job;
     struct bytes good = {drawn.ticket, 0}, worse = {drawn.worse, 0};
     size_t exact[3], stop, above;
@@ -172,7 +159,7 @@ static void draw_lines(uint64_t number)
 /* The lines of the longest page or of the longest ticket: exact rooms; 19; 18; 21. */
 static void draw_longest_lines(enum longest longest)
 {
-    struct chance c = chance_for(run.seed, 0);
+    struct chance c = chance_for(runs.seed, 0);
     struct ref_job *job = &drawn.job;
     size_t exact[3], n;
 
@@ -205,14 +192,14 @@ static char *put_call(char *to, const struct asked *a)
 /* Does the same for the lines of each job, and then for those of the longest page and ticket. */
 static void each_job(void (*with)(const struct asked *, FILE *), FILE *file)
 {
-    for (uint64_t k = 0; k < run.count; k++) {
-        run.job = (int64_t)(run.first + k);
-        draw_lines(run.first + k);
+    for (uint64_t k = 0; k < runs.count; k++) {
+        runs.draw = (int64_t)(runs.first + k);
+        draw_lines(runs.first + k);
         for (unsigned line = 0; line < LINES; line++)
             with(&drawn.asked[line], file);
     }
-    run.job = NO_JOB;
-    if (run.first != 0)
+    runs.draw = NO_DRAW;
+    if (runs.first != 0)
         return;
     for (unsigned k = 0; k < 2; k++) {
         draw_longest_lines(k == 0 ? OF_PAGES : OF_TICKETS);
@@ -276,21 +263,10 @@ static void count(const struct asked *a, const char *text)
 
 static void compare_line(const struct asked *a, FILE *file)
 {
-    static char call[ANSWER_LINE], parts[ANSWER_LINE], text[ANSWER_LINE];
-    const char *have;
+    static char call[ANSWER_LINE];
 
     put_call(call, a);
-    strcpy(parts, call);
-    if (!answer(parts, text))
-        exit(2);
-    count(a, text);
-    have = next_answer(file, call);
-    if (strcmp(have, text) != 0) {
-        printf("DISAGREE: cases gives another answer\n");
-        print_answers(have, text);
-        printf("  %s\n", call);
-        fail();
-    }
+    count(a, same_answer(file, call, print_answers));
 }
 
 static void compare_lines(FILE *file)
@@ -312,11 +288,13 @@ static size_t want_text(struct bytes ticket, uint8_t *text)
     return number == 0 ? paged.length : (size_t)sprintf((char *)text, "refused %u\n", number);
 }
 
-static void try_page(struct bytes ticket)
+/* A ticket as the input, in one of two ways. */
+static void try_page_by(output *through, struct bytes ticket)
 {
     static uint8_t want[REF_PAGE], have[REF_PAGE + REF_LINE];
+    const char *const command[] = {runs.program, NULL};
     size_t m = want_text(ticket, want), at = 0;
-    size_t n = output_of(run.page, "page", ticket.at, ticket.len, have, sizeof have);
+    size_t n = through(command, "page", ticket.at, ticket.len, have, sizeof have);
 
     if (n == m && memcmp(have, want, n) == 0)
         return;
@@ -333,6 +311,11 @@ static void try_page(struct bytes ticket)
     fail();
 }
 
+static void try_page(struct bytes ticket)
+{
+    try_page_by(output_of, ticket);
+}
+
 /* A ticket followed by more bytes, all alike. */
 static void try_longer(struct bytes ticket, size_t more, uint8_t fill_with)
 {
@@ -345,19 +328,20 @@ static void try_longer(struct bytes ticket, size_t more, uint8_t fill_with)
 
 static void try_program(void)
 {
-    for (uint64_t k = 0; k < run.count && run.first + k < PROGRAM_JOBS; k++) {
-        run.job = (int64_t)(run.first + k);
-        draw_lines(run.first + k);
+    for (uint64_t k = 0; k < runs.count && runs.first + k < PROGRAM_JOBS; k++) {
+        runs.draw = (int64_t)(runs.first + k);
+        draw_lines(runs.first + k);
         try_page(drawn.asked[0].ticket);
         try_page(drawn.asked[3].ticket);
     }
-    run.job = NO_JOB;
-    if (run.first != 0)
+    runs.draw = NO_DRAW;
+    if (runs.first != 0)
         return;
     draw_longest_lines(OF_PAGES);
     try_page(drawn.asked[0].ticket);
     draw_longest_lines(OF_TICKETS);
     try_page(drawn.asked[0].ticket);
+    try_page_by(output_in_two, drawn.asked[0].ticket);
     try_page((struct bytes){drawn.ticket, 0});
     for (unsigned k = 0; k < 2; k++) {
         try_longer(drawn.asked[0].ticket, 1, k == 0 ? 0 : 0xff);
@@ -405,24 +389,8 @@ static bool all_met(void)
 
 int main(int argc, char **argv)
 {
-    bool all;
-
-    if (argc < 3) {
-        fprintf(stderr, "usage: pages CASES PAGE [SEED [COUNT [FIRST]]]\n");
-        return 2;
-    }
-    run.cases = argv[1];
-    run.page = argv[2];
-    run.seed = argc > 3 ? strtoull(argv[3], NULL, 10) : 1;
-    run.count = argc > 4 ? strtoull(argv[4], NULL, 10) : 500;
-    run.first = argc > 5 ? strtoull(argv[5], NULL, 10) : 0;
-    begin_running(say_replay);
-    try_lines(run.cases, write_lines, compare_lines);
+    begin_running("pages", argc, argv);
+    try_lines(write_lines, compare_lines);
     try_program();
-    printf("%" PRIu64 " jobs agree (seed %" PRIu64 "); numbers met:\n", run.count, run.seed);
-    all = all_met();
-    if (!all && run.first == 0 && run.count > 0)
-        printf("FAIL: a number, a kind of stop or of carried blocks, a letter or a mark was never "
-               "met\n");
-    return all || run.first != 0 || run.count == 0 ? 0 : 1;
+    return end_running("jobs", all_met, "a number, a kind of stop or of carried blocks, a letter or a mark");
 }

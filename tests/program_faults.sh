@@ -1,4 +1,4 @@
-# program_faults.sh - for page_faults.sh and note_faults.sh: programs with a fault, each of which a test must catch.
+# program_faults.sh - for page_faults.sh, note_faults.sh and slot_faults.sh: programs with a fault, each of which a test must catch.
 #
 # Read by them with BUILD as the first argument (it has the test, programs.o, answer.o, reference.o and note.o), after they have set
 #   test      the test: BUILD/$test CASES PROGRAM SEED COUNT

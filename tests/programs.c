@@ -1,7 +1,8 @@
-/* programs.c - stand-ins for the programs `cases`, `page` and `passes`, for page_faults.sh and
- * note_faults.sh: the reference answers.
+/* programs.c - stand-ins for the programs `cases`, `page`, `passes` and `slots`, for page_faults.sh,
+ * note_faults.sh and slot_faults.sh: the reference answers.
  *
- * usage: cases < LINES, page < TICKET, or passes < NOTE: which one it is, its own name says. */
+ * usage: cases < LINES, page < TICKET, passes < NOTE, or slots DISK ROUNDS < TICKET: which one it is, its
+ * own name says. */
 #include "reference/answer.h"
 #include "reference/reference.h"
 
@@ -9,6 +10,7 @@
 #include <string.h>
 
 enum { MOST_NOTE = 1048576 };  /* bytes of a note that are read */
+enum { MOST_DIGITS = 4096 };   /* of an argument */
 
 /* Lines that are no calls are written as they are. */
 static void cases(void)
@@ -57,6 +59,43 @@ static void passes(void)
         printf("%u%c", reference[k], k + 1 < count ? ' ' : '\n');
 }
 
+/* Digits alone, one or more: the number that they give, the largest for any that is greater. */
+static bool read_digits(const char *text, size_t *number)
+{
+    size_t length = strspn(text, "0123456789");
+
+    *number = 0;
+    for (size_t k = 0; k < length; k++) {
+        size_t digit = (size_t)(text[k] - '0');
+
+        *number = *number > (SIZE_MAX - digit) / 10 ? SIZE_MAX : 10 * *number + digit;
+    }
+    return length > 0 && length <= MOST_DIGITS && text[length] == '\0';
+}
+
+/* The stop is N. A longer input is cut to one byte more than the longest ticket. */
+static void slots(int arguments, char **argument)
+{
+    static uint8_t ticket[REF_TICKET + 1], sheet[REF_SHEET];
+    size_t n, disk, wanted;
+    struct ref_slotted slotted;
+    unsigned number;
+
+    if (arguments != 2 || !read_digits(argument[0], &disk) || !read_digits(argument[1], &wanted)) {
+        printf("usage: slots DISK ROUNDS < TICKET\n");
+        return;
+    }
+    setvbuf(stdin, NULL, _IONBF, 0);
+    n = fread(ticket, 1, sizeof ticket, stdin);
+    number = ref_slots(ticket, n, ref_references(ticket, n), disk, wanted, sheet, REF_SHEET, &slotted);
+    if (number != 0)
+        printf("refused %u\n", number);
+    else if (slotted.slots == 0)
+        printf("none\n");
+    else
+        printf("slots %u\n", slotted.slots);
+}
+
 static bool is_called(const char *path, const char *name)
 {
     size_t length = strlen(path), own = strlen(name);
@@ -70,6 +109,8 @@ int main(int argc, char **argv)
         page();
     else if (argc > 0 && is_called(argv[0], "passes"))
         passes();
+    else if (argc > 0 && is_called(argv[0], "slots"))
+        slots(argc - 1, argv + 1);
     else
         cases();
     return 0;

@@ -9,6 +9,7 @@
 #define ref_page in_page
 #define ref_check in_check
 #define ref_choose in_choose
+#define ref_slots in_slots
 #define ref_planned_numbers in_planned_numbers
 #define ref_checked_numbers in_checked_numbers
 #define ref_chosen_numbers in_chosen_numbers

@@ -21,7 +21,8 @@ static const char *const words[] = {
     "short sheet", "sparing sheet", "page",
     "is empty", "stop is above",
     "malformed", "parentheses", "slice has entries",
-    "carries in more", "a carried block"
+    "carries in more", "a carried block",
+    "asked for"
 };
 
 enum { NUMBERS = sizeof words / sizeof words[0] };

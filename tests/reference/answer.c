@@ -181,6 +181,22 @@ static void answer_choose(struct part part, struct bytes first, struct bytes sec
     }
 }
 
+static void answer_slots(struct part part, size_t disk, size_t wanted, size_t room, char *to)
+{
+    struct lent sheet = lend(room);
+    struct ref_slotted slotted;
+    unsigned number = ref_slots(part.ticket.at, part.ticket.len, part.stop, disk, wanted, sheet.at,
+                                room, &slotted);
+
+    to += sprintf(to, "%u", number);
+    if (number == 0 && slotted.slots == 0)
+        to += sprintf(to, " none");
+    else if (number == 0)
+        to = put_hex(to + sprintf(to, " %u %zu ", slotted.slots, slotted.length), sheet.at,
+                     slotted.length);
+    take_back(to, sheet, slotted.length);
+}
+
 /* Entries past the count, and those of the guard, must not change. */
 static void answer_note(struct bytes text, size_t room, char *to)
 {
@@ -204,7 +220,7 @@ static void answer_note(struct bytes text, size_t room, char *to)
         }
 }
 
-/* A stop or a room: a decimal number of at most 64 bits. */
+/* A stop, a disk, wanted rounds or a room: a decimal number of at most 64 bits. */
 static size_t number_of(const char *word)
 {
     char *end;
@@ -236,6 +252,8 @@ static bool answer_words(char **word, unsigned words, char *to)
         answer_choose(part, sheet, other, to);
         free(sheet.at);
         free(other.at);
+    } else if (strcmp(word[0], "slots") == 0 && words == 6) {
+        answer_slots(part, number_of(word[3]), number_of(word[4]), number_of(word[5]), to);
     } else if (strcmp(word[0], "note") == 0 && words == 3) {
         answer_note(part.ticket, part.stop, to);
     } else {

@@ -16,10 +16,13 @@
  * stop, and with other references from there on; either plan goes on as it does for a job that carries
  * in what its buffers hold after some of its rounds; P-CON takes at most as many rounds as it has
  * fetches on all disks, at most D times the rounds of P-MIN on D disks (request L8), and as many on
- * one; and stops of 0, of N and in between, rounds after the last reference, idle and fetching, idle
- * rounds before it, no rounds charged, jobs that carry blocks in and that carry none, that are read
- * before round 1 in part and to the stop, with a disk full of carried blocks, and of such that are
- * never read, and with 2 and with 3 disks more than D - 1 times the rounds of P-MIN were met. */
+ * one; the least slot count of a disk, for a number of rounds, is the least by the search of each count,
+ * with the short sheet for it, and none exactly if the search finds none; and stops of 0, of N and in
+ * between, rounds after the last reference, idle and fetching, idle rounds before it, no rounds charged,
+ * jobs that carry blocks in and that carry none, that are read before round 1 in part and to the stop,
+ * with a disk full of carried blocks, and of such that are never read, with 2 and with 3 disks more than
+ * D - 1 times the rounds of P-MIN, no slot count, and slot counts below, of and above the ticket's own, of
+ * 1, and of 2 or more carried blocks were met. */
 #include "chance.h"
 #include "reference.h"
 
@@ -33,6 +36,7 @@ enum { MOST_DISKS = 3, MOST_BLOCKS = 8, MOST_REFERENCES = 32, MOST_PAST = 6 };
 enum { ANY_BLOCKS = 6, ANY_REFERENCES = 20 };   /* of jobs that are not of Theorem 8's kind */
 enum { SETS = 1 << MOST_BLOCKS };
 enum { ROUNDS = MOST_DISKS, UNREACHED = 1000000 };
+enum { FILL = 0xa5 };          /* of a lent buffer; no short sheet begins so */
 
 /* What all disks do in one round. */
 struct round {
@@ -285,16 +289,21 @@ static bool choices_follow_rounds(const struct written *w, const struct ref_plan
            chooses(w, planned, REF_P_CON, REF_P_MIN);
 }
 
+static void search_in(struct search *s, const struct ref_job *job)
+{
+    s->job = job;
+    memset(s->of_disk, 0, sizeof s->of_disk);
+    for (unsigned b = 0; b < job->blocks; b++)
+        s->of_disk[job->disk[b]] |= 1u << b;
+}
+
 /* The costs that the search leaves are of rounds. */
 static bool plans_are_least(struct search *s, const struct ref_job *job,
                             const struct ref_planned *planned)
 {
     bool good = true;
 
-    s->job = job;
-    memset(s->of_disk, 0, sizeof s->of_disk);
-    for (unsigned b = 0; b < job->blocks; b++)
-        s->of_disk[job->disk[b]] |= 1u << b;
+    search_in(s, job);
     for (unsigned d = 0; d < job->disks; d++)
         good = good && least(s, d) == planned->counts[REF_P_CON].fetches[d];
     return good && least(s, ROUNDS) == planned->counts[REF_P_MIN].charged;
@@ -454,6 +463,8 @@ static struct {
     unsigned long idle, fetched;          /* with idle rounds after it, with fetches after it */
     unsigned long uncharged;   /* ways that have rounds, of which none is charged */
     unsigned long tied;        /* ways charged as P-MIN is, with more rounds */
+    unsigned long fewer, same, more, no_count;  /* least slot counts, to the ticket's own; none */
+    unsigned long one, of_carried;        /* of 1; of as many as 2 or more carried blocks */
 } met;
 
 static void put_round(const struct ref_job *job, struct way *way, const struct round *round)
@@ -780,6 +791,115 @@ static const char *cut_job(struct chance *c, const struct ref_job *job)
                ? NULL : "A PLAN GOES ON OTHERWISE";
 }
 
+/* ---- The least slot count ---- */
+
+/* The fewest rounds charged, by the slots of one disk: from the least count that is allowed up to one
+ * that is as good as any greater, as the disk has no more blocks. */
+struct by_slots {
+    unsigned disk, low, high, fewest[MOST_BLOCKS + 1];
+};
+
+static void search_counts(const struct ref_job *job, unsigned d, struct by_slots *by)
+{
+    static struct search s = {.beside_empty = false};
+    unsigned carried = carried_on(job, d);
+    struct ref_job other = *job;
+
+    search_in(&s, &other);
+    by->disk = d;
+    by->low = carried > 1 ? carried : 1;
+    by->high = size(s.of_disk[d]) > by->low ? size(s.of_disk[d]) : by->low;
+    for (other.slots[d] = by->low; other.slots[d] <= by->high; other.slots[d]++)
+        by->fewest[other.slots[d]] = least(&s, ROUNDS);
+}
+
+/* The first count, 0 if there is none, with which the search finishes within these rounds. */
+static unsigned first_count(const struct by_slots *by, size_t wanted)
+{
+    for (unsigned s = by->low; s <= by->high; s++)
+        if (by->fewest[s] <= wanted)
+            return s;
+    return 0;
+}
+
+/* The fewest rounds of some count, one less or one more; none, or more than any sheet has. */
+static size_t draw_wanted(struct chance *c, const struct by_slots *by, unsigned slots)
+{
+    static const size_t many[] = {REF_ROUNDS, UINT32_MAX, SIZE_MAX};
+    unsigned some = between(c, by->low, by->high), how = below(c, 8);
+    unsigned own = slots < by->high ? slots : by->high;
+    unsigned fewest = by->fewest[how < 4 ? own : some];
+
+    if (how == 7)
+        return one_in(c, 2) ? 0 : many[below(c, 3)];
+    return how % 4 == 1 ? fewest + 1 : how % 4 == 2 && fewest > 0 ? fewest - 1 : fewest;
+}
+
+/* The sheet is P-MIN's for the job with this count, which passes with the rounds that the search
+ * found. */
+static bool is_short_sheet(const struct ref_job *job, const struct by_slots *by, unsigned slots,
+                           const uint8_t *sheet, size_t length)
+{
+    static struct written w;
+    struct ref_job other = *job;
+    struct ref_planned planned;
+
+    other.slots[by->disk] = slots;
+    return both_pass(&other, &w, &planned) &&
+           planned.counts[REF_P_MIN].charged == by->fewest[slots] &&
+           planned.sheet_length[REF_P_MIN] == length &&
+           memcmp(w.sheet[REF_P_MIN], sheet, length) == 0;
+}
+
+/* Which of the least slot counts is met. With fewer slots than carried blocks, if that were allowed,
+ * no slot would be empty and the run would be as with so many slots as blocks; so each count of these
+ * is one where fewer would do. */
+static void count_slots(const struct ref_job *job, const struct by_slots *by, unsigned slots)
+{
+    unsigned own = job->slots[by->disk];
+
+    met.no_count += slots == 0;
+    met.fewer += slots > 0 && slots < own;
+    met.same += slots == own;
+    met.more += slots > own;
+    met.one += slots == 1;
+    met.of_carried += slots > 1 && slots == carried_on(job, by->disk);
+}
+
+/* What does not hold of the least slot count of a disk, or NULL. */
+static const char *slots_are_least(struct chance *c, const struct ref_job *job,
+                                   const struct written *w, const struct by_slots *by)
+{
+    static uint8_t sheet[REF_SHEET];
+    size_t wanted = draw_wanted(c, by, job->slots[by->disk]);
+    unsigned slots = first_count(by, wanted);
+    struct ref_slotted slotted;
+
+    sheet[0] = FILL;
+    if (ref_slots(w->ticket, w->n, w->stop, by->disk, wanted, sheet, REF_SHEET, &slotted) != 0 ||
+        slotted.slots != slots) {
+        printf("disk %u, %zu rounds: %u slots, 0 for none, by the search, and %u by the reference\n",
+               by->disk, wanted, slots, slotted.slots);
+        return "ANOTHER SLOT COUNT";
+    }
+    if (slots == 0 ? sheet[0] != FILL : !is_short_sheet(job, by, slots, sheet, slotted.length))
+        return "ANOTHER SHEET FOR THE SLOTS";
+    count_slots(job, by, slots);
+    return NULL;
+}
+
+/* Some disk, and two numbers of rounds. */
+static const char *try_slots(struct chance *c, const struct ref_job *job, const struct written *w)
+{
+    const char *wrong = NULL;
+    struct by_slots by;
+
+    search_counts(job, below(c, job->disks), &by);
+    for (unsigned k = 0; k < 2 && wrong == NULL; k++)
+        wrong = slots_are_least(c, job, w, &by);
+    return wrong;
+}
+
 /* ---- All of it ---- */
 
 /* What a job carries in, and how far it is read before round 1. */
@@ -846,6 +966,8 @@ static const char *search_job(struct chance *c, const struct ref_job *job)
     if (!page_follows(job, &written, &planned))
         return "ANOTHER PAGE";
     wrong = waits_too_long(job, &planned);
+    if (wrong == NULL)
+        wrong = try_slots(c, job, &written);
     if (wrong != NULL)
         return wrong;
     count_met(job, &planned);
@@ -892,11 +1014,14 @@ static bool all_met(void)
     printf("  letters met:");
     for (unsigned k = 0; k < LETTERS; k++)
         printf(" %c:%lu", letters[k], letters_met[k]);
-    printf("\n");
+    printf("\n  least slot counts below the ticket's own: %lu, equal: %lu, above: %lu, none: %lu; of 1: "
+           "%lu, of 2 or more carried blocks: %lu\n", met.fewer, met.same, met.more, met.no_count,
+           met.one, met.of_carried);
     return waits && met.none > 0 && met.whole > 0 && met.between > 0 && met.sooner > 0 &&
            met.waited > 0 && met.idle > 0 && met.fetched > 0 && met.uncharged > 0 && met.tied > 0 &&
            met.carried > 0 && met.empty > 0 && met.in_part > 0 && met.in_whole > 0 && met.full > 0 &&
-           met.unread > 0;
+           met.unread > 0 && met.fewer > 0 && met.same > 0 && met.more > 0 && met.no_count > 0 &&
+           met.one > 0 && met.of_carried > 0;
 }
 
 /* Tries all jobs, and gives the exit status. */
@@ -928,11 +1053,12 @@ int main(int argc, char **argv)
            "blocks carried in, with and without L3,\n  whatever rounds follow the last reference, and "
            "the same whatever is past the stop; they go on alike from what their buffers hold;\n  the "
            "choices follow the rounds charged, and the pages the sheets;\n  P-CON takes at most D times "
-           "the rounds of P-MIN, and no more than its fetches\n", count, seed);
+           "the rounds of P-MIN, and no more than its fetches;\n  the least slot counts are the least for their "
+           "rounds\n", count, seed);
     all = all_met();
     if (!all)
-        printf("FAIL: a kind of stop, of carried blocks or of way, a wait of more than D - 1 times the "
-               "rounds, or a state that is reached sooner, or only, with discards beside an empty slot, "
-               "was never met\n");
+        printf("FAIL: a kind of stop, of carried blocks, of way or of slot count, a wait of more than "
+               "D - 1 times the rounds, or a state that is reached sooner, or only, with discards beside "
+               "an empty slot, was never met\n");
     return !all;
 }

@@ -8,8 +8,9 @@ build=$1
 dir=$build/mutant
 missed=0
 tried=0
-cat ../vectors/L9.txt ../vectors/edges.txt ../vectors/longest.txt >"$build/all.txt" || exit 2
-grep -h '^note' ../vectors/L9.txt ../vectors/edges.txt >"$build/notes.txt" || exit 2
+cat ../vectors/L10.txt ../vectors/edges.txt ../vectors/longest.txt | grep -v '^slots' >"$build/all.txt" || exit 2
+grep -h '^note' ../vectors/L10.txt ../vectors/edges.txt >"$build/notes.txt" || exit 2
+grep -h '^slots' ../vectors/L10.txt ../vectors/edges.txt ../vectors/longest.txt >"$build/slots.txt" || exit 2
 
 # trial SOURCE OTHER NAME SCRIPT TEST WORDS ARGUMENT... - the changed copy of SOURCE.c, linked with OTHER, must differ and compile, and
 # the test must say what is wrong with it: a crash would not do.
@@ -51,6 +52,16 @@ undrawn() {
 # waited NAME SCRIPT - a wrong reference that the vectors of long waits must catch, by themselves.
 waited() {
     trial reference note "$1" "$2" vectors disagrees ../vectors/waiting.txt
+}
+
+# slotted NAME SCRIPT - a wrong reference that the vectors of slot counts must catch, by themselves.
+slotted() {
+    trial reference note "$1, for a slot count" "$2" vectors disagrees "$build/slots.txt"
+}
+
+# misjudged NAME SCRIPT WORDS - a search that judges otherwise than the reference; it must fail, with these words.
+misjudged() {
+    trial exhaustive note "$1, by the search" "$2" reference "$3" 1 2000
 }
 
 # misread NAME SCRIPT - a wrong reader of notes that the vectors must catch.
@@ -282,7 +293,8 @@ carried_nevers_sparing="s/^struct view \\{/static bool otherwise;\\n\\n&/
     ref_run(\\&drawn->job, REF_P_CON, drawn->schedule[1], \\&p->counts[1]);\\n    otherwise = false;/
     $(last_of "(otherwise \\&\\& $never_tie ? job->carried[b] - job->carried[v->min_block] : 0)")"
 one_more_alone="s/^struct view \\{/static bool planning;\\n\\n&/;${in_run}s/^    \\}\$/&\\n    counts->charged += !planning;/
-    ${in_planning}{s/^    for \\(int k = 0.*/    planning = true;\\n&/;s/^    for \\(unsigned k = 0.*/    planning = false;\\n&/}"
+    ${in_planning}{s/^    for \\(int k = 0.*/    planning = true;\\n&/;s/^    for \\(unsigned k = 0.*/    planning = false;\\n&/}
+    /^unsigned ref_slots/,/^}/s/^    slots = .*/    planning = true;\\n&\\n    planning = false;/"
 
 # late NUMBER WHERE - the script that has 25 or 26 tested later; WHERE is a script that returns late.
 late() {
@@ -812,6 +824,250 @@ searched 'by disk and then by round' "$by_disk" 'ANOTHER PAGE'
 searched 'rounds from 0' "$(round_as 'round - 1')" 'ANOTHER PAGE'
 searched 'the page of P-CON always' "$of_p_con" 'ANOTHER PAGE'
 searched 'the page of P-MIN always' "$of_p_min" 'ANOTHER PAGE'
+
+# Scripts about slot counts
+in_least='/^static unsigned least_slots/,/^}/'
+in_slots='/^unsigned ref_slots/,/^}/'
+own="${in_least}s/^    unsigned carried = .*/&\\n    unsigned own = job->slots[d];/"
+
+# counts_from, counts_to EXPRESSION - the script that has the counts tried from this one on, or up to this one; own is the ticket's.
+counts_from() {
+    printf '%s;%ss/unsigned s = 1; s/unsigned s = own > 0 ? %s : 1; s/' "$own" "$in_least" "$1"
+}
+counts_to() {
+    printf '%s;%ss/s <= REF_SLOTS;/own > 0 \\&\\& s <= %s;/' "$own" "$in_least" "$1"
+}
+
+# left_out EXPRESSION - the script that has a count s not tried where this holds.
+left_out() {
+    printf '%ss/^        if \\(s < carried\\)/        if (%s)/' "$in_least" "$1"
+}
+
+# enough EXPRESSION - the script that has a count be enough where this holds; counts->charged are the rounds of P-MIN.
+enough() {
+    printf '%ss/^        if \\(counts->charged <= wanted\\)/        if (%s)/' "$in_least" "$1"
+}
+
+# before_run TEXT - the script that has this come before a count is tried.
+before_run() {
+    printf '%ss/^        ref_run\\(/        %s\\n&/' "$in_least" "$1"
+}
+
+# asked_as NAME EXPRESSION - the script that has this be the disk, or the wanted rounds, of a call.
+asked_as() {
+    printf '%ss/^    memset\\(out, 0, .*/&\\n    %s = %s;/' "$in_slots" "$1" "$2"
+}
+
+# outside EXPRESSION - the script that has 27 returned where this holds.
+outside() {
+    printf '%ss/^    if \\(disk >= job.disks\\)/    if (%s)/' "$in_slots" "$1"
+}
+
+# after_reading TEXT - the script that has this come before a refusal by ticket or stop.
+after_reading() {
+    printf '%ss/^    if \\(number != 0\\)$/    %s\\n&/' "$in_slots" "$1"
+}
+
+# for_none EXPRESSION - the script that has this number returned for none.
+for_none() {
+    printf '%s{/^    if \\(slots == 0\\)/{n;s/return 0;/return %s;/}}' "$in_slots" "$1"
+}
+
+# before_sheet TEXT - the script that has this come before the sheet is written, where a count is found.
+before_sheet() {
+    printf '%ss/^    length = /    %s\\n&/' "$in_slots" "$1"
+}
+
+# the job with the slots that it has then, planned once more
+again='ref_run(\&job, REF_P_MIN, schedule, \&counts);'
+from_2=$(counts_from 2)
+from_own=$(counts_from own)
+to_own=$(counts_to own)
+below_carried=$(left_out false)
+above_carried=$(left_out 's <= carried')
+greatest="${in_least}s/unsigned s = 1; s <= REF_SLOTS; s\\+\\+/unsigned s = REF_SLOTS; s >= 1; s--/"
+every_second="${in_least}s/s <= REF_SLOTS; s\\+\\+/s <= REF_SLOTS; s += 2/"
+one_round_more=$(enough 'counts->charged <= wanted + (wanted < SIZE_MAX)')
+one_round_less=$(enough 'counts->charged < wanted')
+past_largest=$(enough 'counts->charged < wanted + 1')
+all_p_con="${in_least}s/REF_P_MIN/REF_P_CON/"
+by_p_con="$all_p_con;$(before_sheet "$again")"
+sheet_of_p_con=$(before_sheet 'ref_run(\&job, REF_P_CON, schedule, \&counts);')
+whole_job=$(before_run 'job->stop = job->references;')
+all_disks=$(before_run 'for (unsigned e = 0; e < job->disks; e++) job->slots[e] = s;')
+other_disks=$(before_run 'for (unsigned e = 0; e < job->disks; e++) job->slots[e] = e == d ? s : REF_SLOTS;')
+never_none="${in_least}s/^    return 0;/    return REF_SLOTS;/"
+sheet_of_own="${in_slots}s/^    slots = .*/    unsigned own = job.slots[disk];\\n&/;$(before_sheet "job.slots[disk] = own; $again")"
+none_written="${in_slots}s/^    if \\(slots == 0\\)/    if (slots == 0 \\&\\& room > 0) sheet[0] = 0;\\n&/"
+blocks_of_disk='unsigned blocks = 0; for (unsigned b = 0; b < job->blocks; b++) blocks += job->disk[b] == d;'
+own_first="struct ref_job o = *job; o.slots[d] = own; ref_run(\\&o, REF_P_MIN, schedule, counts); if (counts->charged <= wanted) return own;"
+own_sheet="struct ref_job o = job; o.slots[disk] = own; ref_run(\\&o, REF_P_MIN, schedule, \\&counts); if (own > slots \\&\\& sheet_length(schedule, (size_t)counts.charged * job.disks) > room) return 17; $again"
+next_count="while (length > room \\&\\& slots < REF_SLOTS) {\\n        job.slots[disk] = ++slots;\\n        $again\\n\
+        length = ref_write_sheet(schedule, counts.charged, job.disks, sheet, room);\\n    }"
+idle_last='if (counts.charged > 0 \&\& counts.charged < REF_ROUNDS) memset(schedule + counts.charged++ * job.disks, 0xff, job.disks * sizeof *schedule);'
+
+# written_by NUMBER - the script that has a byte written though the call is refused with this number.
+written_by() {
+    parameters='const uint8_t *ticket, size_t n, size_t stop, size_t disk, size_t wanted, uint8_t *sheet, size_t room, struct ref_slotted *out'
+    right="    unsigned number = right_slots(ticket, n, stop, disk, wanted, sheet, room, out);"
+    printf '%s\n' "s/^unsigned ref_slots\\(/static unsigned right_slots(/" "s/^\\/\\* ---- The check ---- \\*\\//\
+unsigned ref_slots($parameters)\\n{\\n$right\\n    if (number == $1 \\&\\& room > 0) sheet[0] = 0;\\n    return number;\\n}\\n\\n&/"
+}
+
+# Which counts are tried
+slotted 'from 2' "$from_2"
+slotted "from the ticket's own" "$from_own"
+slotted "from one above the ticket's own" "$(counts_from 'own + 1')"
+slotted "up to the ticket's own" "$to_own"
+slotted 'up to 63' "$(counts_to 63)"
+slotted 'up to 65' "$(counts_to 65)"
+slotted 'up to 32' "$(counts_to 32)"
+slotted 'up to as many as the disk has blocks' "$(counts_to blocks);${in_least}s/^    for \\(/    $blocks_of_disk\\n&/"
+slotted 'every second one' "$every_second"
+slotted 'powers of two' "${in_least}s/s <= REF_SLOTS; s\\+\\+/s <= REF_SLOTS; s *= 2/"
+for count in 25 33 37 57; do
+    slotted "$count is left out" "$(left_out "s < carried || s == $count")"
+done
+slotted 'the greatest for the least' "$greatest"
+slotted "the ticket's own, if it is enough" "$own;$(before_run "$own_first")"
+slotted 'one more than the least' "${in_least}s/return s;/return s + 1;/"
+slotted 'one more than the least, below 64' "${in_least}s/return s;/return s + (s < REF_SLOTS);/"
+slotted 'below the blocks carried in' "$below_carried"
+slotted 'from one above the blocks carried in' "$above_carried"
+slotted 'from one below the blocks carried in' "$(left_out 's + 1 < carried')"
+slotted 'not below the blocks that disk 0 carries in' "${in_least}s/= carried_on\\(job, d\\)/= carried_on(job, 0)/"
+slotted 'not below the blocks that all disks carry in' \
+    "${in_least}s/^    unsigned carried = .*/    unsigned carried = 0; for (unsigned e = 0; e < job->disks; e++) carried += carried_on(job, e);/"
+slotted 'none where 64 blocks are carried in' "$(left_out 's < carried || carried == REF_SLOTS')"
+slotted "the ticket's own slots whatever the count" "${in_least}s/^        job->slots\\[d\\] = s;/        ;/"
+
+# Which rounds are enough
+slotted 'one round more' "$one_round_more"
+slotted 'one round less' "$one_round_less"
+slotted 'as many as wanted alone' "$(enough 'counts->charged == wanted')"
+slotted 'less than one more, which is 0 for the largest' "$past_largest"
+slotted 'at most one less, which is the largest for 0' "$(enough 'counts->charged <= wanted - 1')"
+slotted 'none for no rounds' "$(enough 'wanted > 0 \&\& counts->charged <= wanted')"
+slotted 'none for nothing to read' "$(enough 'counts->charged > 0 \&\& counts->charged <= wanted')"
+slotted 'by the fetches of the disk' "$(enough 'counts->fetches[d] <= wanted')"
+slotted 'by the last eight bits of the rounds' "$(enough '(uint8_t)counts->charged <= wanted')"
+for bits in 8 12 16 32 63; do
+    slotted "the last $bits bits of the wanted rounds" "$(asked_as wanted "wanted \\& ((1ull << $bits) - 1)")"
+done
+slotted 'the wanted rounds as a signed number' "$(enough '(long long)counts->charged <= (long long)wanted')"
+slotted 'by P-CON, and its sheet' "$all_p_con"
+slotted 'by P-CON' "$by_p_con"
+slotted 'up to N' "$whole_job"
+slotted 'up to one more than the stop' "$(asked_as job.stop 'job.stop + (job.stop < job.references)')"
+slotted 'up to one less than the stop' "$(asked_as job.stop 'job.stop - (job.stop > 0)')"
+slotted 'with as many slots on the other disks' "$all_disks"
+slotted 'with 64 slots on the other disks' "$other_disks"
+slotted 'with one slot on the other disks' "$(before_run 'for (unsigned e = 0; e < job->disks; e++) job->slots[e] = e == d ? s : 1;')"
+slotted 'the disk starts empty' "$(before_run 'for (unsigned b = 0; b < job->blocks; b++) if (job->disk[b] == d) job->carried[b] = false;')"
+slotted 'the other disks start empty' "$(before_run 'for (unsigned b = 0; b < job->blocks; b++) if (job->disk[b] != d) job->carried[b] = false;')"
+
+# The answer, and its sheet
+slotted '64 for none' "$never_none"
+slotted '1 for none' "${in_least}s/^    return 0;/    return 1;/"
+slotted '17 for none' "$(for_none 17)"
+slotted '27 for none' "$(for_none 27)"
+slotted "the sheet for the ticket's own slots" "$sheet_of_own"
+slotted 'the sheet of P-CON' "$sheet_of_p_con"
+slotted 'the sheet for 64 slots' "$(before_sheet "job.slots[disk] = REF_SLOTS; $again")"
+slotted 'the sheet up to N' "$(before_sheet "job.stop = job.references; $again")"
+slotted 'the sheet not written' "${in_slots}s/^    length = .*/    length = sheet_length(schedule, (size_t)counts.charged * job.disks);/"
+slotted 'the sheet ends in an idle round' "$(before_sheet "$idle_last")"
+slotted 'the sheet without its last round' "$(before_sheet 'counts.charged -= counts.charged > 0;')"
+slotted 'the last eight bits of the length' "${in_slots}s/out->length = length;/out->length = length \\& 255;/"
+slotted 'a byte past the sheet changed' "${in_slots}s/^    out->slots = slots;/&\\n    if (length < room) sheet[length] = 0;/"
+slotted "a byte past the sheet's buffer changed" "${in_slots}s/^    out->slots = slots;/&\\n    if (length == room) sheet[length] = 0;/"
+slotted 'a byte written for none' "$none_written"
+for number in 8 17 21 27; do
+    slotted "a byte written by $number" "$(written_by "$number")"
+done
+
+# The room for the sheet
+slotted 'exact room refused' "${in_slots}s/length > room\\)/length >= room)/"
+slotted 'a byte less than the sheet accepted' "${in_slots}{s/sheet, room\\);/sheet, room + 1);/;s/length > room\\)/length > room + 1)/}"
+slotted '18 for 17' "${in_slots}s/return 17;/return 18;/"
+slotted 'none for 17' "${in_slots}s/return 17;/return 0;/"
+slotted 'the next count where the sheet does not fit' "${in_slots}s/^    if \\(length > room\\)/    $next_count\\n&/"
+slotted '17 for a room of less than the longest sheet' "${in_slots}s/length > room\\)/room < REF_SHEET)/"
+slotted "17 where the sheet for the ticket's own slots, which are more, does not fit" \
+    "${in_slots}s/^    slots = .*/    unsigned own = job.slots[disk];\\n&/;$(before_sheet "$own_sheet")"
+slotted '17 before none' "$(for_none 'room < 2 ? 17 : 0')"
+slotted '17 before 27' "${in_slots}s/return 27;/return room < 2 ? 17 : 27;/"
+
+# Which disks are refused
+slotted 'a disk of D accepted' "$(outside 'disk > job.disks || disk >= REF_DISKS')"
+slotted 'a disk of 8 or more alone refused' "$(outside 'disk >= REF_DISKS')"
+slotted 'the last disk refused' "$(outside 'disk >= job.disks - 1')"
+slotted 'the last of eight disks refused' "$(outside 'disk >= job.disks || disk == REF_DISKS - 1')"
+slotted 'disk 0 refused' "$(outside 'disk - 1 >= job.disks - 1')"
+slotted 'no disk refused, but divided by D' "$(outside '(disk %= job.disks) > REF_DISKS')"
+slotted 'no disk refused, but the last taken' "$(outside 'disk >= job.disks \&\& (disk = job.disks - 1u) > REF_DISKS')"
+for bits in 3 8 16 32 63; do
+    slotted "the last $bits bits of the disk" "$(asked_as disk "disk \\& ((1ull << $bits) - 1)")"
+done
+slotted 'the largest number is disk 0' "$(asked_as disk 'disk == SIZE_MAX ? 0 : disk')"
+slotted 'the next disk' "${in_slots}s/^    slots = /    disk = (disk + 1) % job.disks;\\n&/"
+slotted 'disk 0 whatever the disk' "${in_slots}s/^    slots = /    disk = 0;\\n&/"
+slotted 'the last disk whatever the disk' "${in_slots}s/^    slots = /    disk = job.disks - 1u;\\n&/"
+slotted 'none for 27' "${in_slots}s/return 27;/return 0;/"
+slotted '17 for 27' "${in_slots}s/return 27;/return 17;/"
+slotted 'none before 27' "${in_slots}s/return 27;/return wanted == 0 ? 0 : 27;/"
+
+# When 21, 27, 17 and none come
+for number in 1 2 3 4 5 6 7 25 26 8 21; do
+    slotted "27 tested before $number" "$(after_reading "if (number == $number \\&\\& disk > REF_DISKS) return 27;")"
+    slotted "17 tested before $number" "$(after_reading "if (number == $number \\&\\& room < 2) return 17;")"
+    slotted "none before $number" "$(after_reading "if (number == $number \\&\\& wanted == 0) return 0;")"
+done
+for number in 1 2 3 4 5 6 7 25 26 8; do
+    slotted "21 tested before $number" "$(after_reading "if (number == $number \\&\\& stop > REF_REFERENCES) return 21;")"
+done
+
+# The same in the search: counts that are not the least, and other sheets
+searched 'slot counts from 2' "$from_2" 'ANOTHER SLOT COUNT'
+searched "slot counts from the ticket's own" "$from_own" 'ANOTHER SLOT COUNT'
+searched "slot counts up to the ticket's own" "$to_own" 'ANOTHER SLOT COUNT'
+searched 'every second slot count' "$every_second" 'ANOTHER SLOT COUNT'
+searched 'the greatest slot count for the least' "$greatest" 'ANOTHER SLOT COUNT'
+searched 'slot counts below the blocks carried in' "$below_carried" 'ANOTHER SLOT COUNT'
+searched 'slot counts from one above the blocks carried in' "$above_carried" 'ANOTHER SLOT COUNT'
+searched 'slot counts for one round more' "$one_round_more" 'ANOTHER SLOT COUNT'
+searched 'slot counts for one round less' "$one_round_less" 'ANOTHER SLOT COUNT'
+searched 'slot counts for less than one round more, which is 0 for the largest' "$past_largest" 'ANOTHER SLOT COUNT'
+searched 'slot counts by P-CON' "$by_p_con" 'ANOTHER SLOT COUNT'
+searched 'slot counts up to N' "$whole_job" 'ANOTHER SLOT COUNT\|ANOTHER SHEET FOR THE SLOTS'
+searched 'slot counts with as many slots on the other disks' "$all_disks" 'ANOTHER SLOT COUNT\|ANOTHER SHEET FOR THE SLOTS'
+searched 'slot counts with 64 slots on the other disks' "$other_disks" 'ANOTHER SLOT COUNT'
+searched '64 slots for none' "$never_none" 'ANOTHER SLOT COUNT'
+searched "the sheet for the ticket's own slots" "$sheet_of_own" 'ANOTHER SHEET FOR THE SLOTS'
+searched 'the sheet of P-CON for a slot count' "$sheet_of_p_con" 'ANOTHER SHEET FOR THE SLOTS'
+searched 'the sheet of a slot count up to N' "$(before_sheet "job.stop = job.references; $again")" 'ANOTHER SHEET FOR THE SLOTS'
+searched 'a byte written for no slot count' "$none_written" 'ANOTHER SHEET FOR THE SLOTS'
+
+# Searches that judge slot counts otherwise than the reference
+in_counts='/^static void search_counts/,/^}/'
+in_first='/^static unsigned first_count/,/^}/'
+in_wanted='/^static size_t draw_wanted/,/^}/'
+misjudged 'the greatest slot count' "${in_first}s/s = by->low; s <= by->high; s\\+\\+/s = by->high; s >= by->low; s--/" 'ANOTHER SLOT COUNT'
+misjudged 'one round more' "${in_first}s/by->fewest\\[s\\] <= wanted/by->fewest[s] <= wanted + 1/" 'ANOTHER SLOT COUNT'
+misjudged 'one round less' "${in_first}s/by->fewest\\[s\\] <= wanted/by->fewest[s] < wanted/" 'ANOTHER SLOT COUNT'
+misjudged 'slot counts below the blocks carried in' "${in_counts}s/by->low = .*/by->low = 1;/" 'ANOTHER SLOT COUNT'
+misjudged 'no slot count above 2' "${in_counts}s/^    for \\(other/    by->high = by->low > 2 ? by->low : by->high > 2 ? 2 : by->high;\\n&/" 'ANOTHER SLOT COUNT'
+misjudged 'a slot more than the count' "${in_counts}s/= least/= by->fewest[other.slots[d] - (other.slots[d] > by->low)] = least/" 'ANOTHER SLOT COUNT'
+misjudged 'the sheet of P-CON' '/^static bool is_short_sheet/,/^}/s/REF_P_MIN/REF_P_CON/' 'ANOTHER SHEET FOR THE SLOTS'
+
+# Searches that draw not every kind of slot count
+undrawn 'always more rounds than any sheet has' "${in_wanted}{s/^    if \\(how == 7\\)/    if (true)/;s/one_in\\(c, 2\\) \\? 0 : //}" 'above: 0, none: 0;'
+undrawn 'never a round wanted' "${in_wanted}s/^    if \\(how == 7\\)/    return 0;\\n&/" 'above: 0, none: [1-9]'
+undrawn 'one slot on every disk' 's/^    \*job = waiting\[which\];/&\n    for (unsigned d = 0; d < job->disks; d++) job->slots[d] = 1;/
+    s/^        job->slots\[d\] = tight .*/        job->slots[d] = 1;/' "below the ticket's own: 0,"
+undrawn 'sixty slots on every disk' 's/^    \*job = waiting\[which\];/&\n    for (unsigned d = 0; d < job->disks; d++) job->slots[d] = 60;/
+    s/^        job->slots\[d\] = tight .*/        job->slots[d] = 60;/' 'equal: 0, above: 0,'
+undrawn 'no more than one block carried in on a disk' 's/carried_on\(job, d\) < job->slots\[d\] && /carried_on(job, d) < 1 \&\& /' 'of 2 or more carried blocks: 0$'
 
 # Scripts about notes
 in_append='/^static void append/,/^}/'

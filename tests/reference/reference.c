@@ -1,4 +1,4 @@
-/* reference.c - document 01 and requests L1 to L5, L7 and L9, sentence by sentence; words
+/* reference.c - document 01 and requests L1 to L5, L7, L9 and L10, sentence by sentence; words
  * between quotation marks are their own. */
 #include "reference.h"
 
@@ -589,6 +589,55 @@ unsigned ref_page(const uint8_t *ticket, size_t n, size_t stop, uint8_t *p_min, 
     write_sheets(&drawn, buffer, room);
     write_page(&drawn.job, rule, page);
     out->planned = drawn.planned;
+    out->length = length;
+    return 0;
+}
+
+/* ---- The least slot count ---- */
+
+/* "the least slot count for that disk, from 1 to 64 and not below the blocks it carries in, with which
+ * some sheet finishes within those rounds, the other disks unchanged": as no sheet is charged fewer
+ * rounds than P-MIN's, that one decides for each count. Leaves the job with this count, and P-MIN's
+ * schedule for it; gives 0 for none. */
+static unsigned least_slots(struct ref_job *job, unsigned d, size_t wanted,
+                            struct ref_action *schedule, struct ref_counts *counts)
+{
+    unsigned carried = carried_on(job, d);
+
+    for (unsigned s = 1; s <= REF_SLOTS; s++) {
+        if (s < carried)
+            continue;
+        job->slots[d] = s;
+        ref_run(job, REF_P_MIN, schedule, counts);
+        if (counts->charged <= wanted)
+            return s;
+    }
+    return 0;
+}
+
+/* "27, the disk is not in the ticket, tested after the stop, and 17 where that sheet's buffer is too
+ * small"; the answer none "writes no byte" */
+unsigned ref_slots(const uint8_t *ticket, size_t n, size_t stop, size_t disk, size_t wanted,
+                   uint8_t *sheet, size_t room, struct ref_slotted *out)
+{
+    struct ref_action schedule[REF_ROUNDS * REF_DISKS];
+    struct ref_counts counts;
+    struct ref_job job;
+    unsigned number = ref_read_ticket(ticket, n, stop, &job), slots;
+    size_t length;
+
+    memset(out, 0, sizeof *out);
+    if (number != 0)
+        return number;
+    if (disk >= job.disks)
+        return 27;
+    slots = least_slots(&job, (unsigned)disk, wanted, schedule, &counts);
+    if (slots == 0)
+        return 0;
+    length = ref_write_sheet(schedule, counts.charged, job.disks, sheet, room);
+    if (length > room)
+        return 17;
+    out->slots = slots;
     out->length = length;
     return 0;
 }

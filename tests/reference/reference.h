@@ -1,4 +1,4 @@
-/* reference.h - the planner of document 01 with requests L1 to L9, written from the papers alone.
+/* reference.h - the planner of document 01 with requests L1 to L10, written from the papers alone.
  *
  * A reference to compare others with: tables and plain passes over the blocks, nothing clever.
  * Every answer "number" is 0, or the number of the refusal in documents 01 and 02. Notes, of request
@@ -67,6 +67,11 @@ struct ref_chosen {
     uint16_t which, length;            /* the sheet handed back: 0 first, 1 second; how long */
 };
 
+struct ref_slotted {
+    unsigned slots;                    /* the least slot count of the disk; 0: none */
+    size_t length;                     /* of the short sheet for it */
+};
+
 /* Ticket and stop to job. The job means nothing where the number is not 0. */
 unsigned ref_read_ticket(const uint8_t *ticket, size_t n, size_t stop, struct ref_job *job);
 
@@ -100,6 +105,11 @@ unsigned ref_check(const uint8_t *ticket, size_t n, size_t stop, const uint8_t *
 /* The choice between two sheets up to a stop; all of out is 0 if refused. */
 unsigned ref_choose(const uint8_t *ticket, size_t n, size_t stop, const uint8_t *first, size_t m1,
                     const uint8_t *second, size_t m2, struct ref_chosen *out);
+
+/* The least slot count of a disk with which the part before the stop finishes within the wanted rounds:
+ * writes the short sheet for it, or nothing if there is none or it is refused; then all of out is 0. */
+unsigned ref_slots(const uint8_t *ticket, size_t n, size_t stop, size_t disk, size_t wanted,
+                   uint8_t *sheet, size_t room, struct ref_slotted *out);
 
 /* A note, read. A count above REF_REFERENCES says only that they are too many. */
 struct ref_noted {

@@ -1,12 +1,13 @@
 // The vectors' calls, made through the planner's public calls and that of `notes`. Standard input has a call on each line,
-// `plan TICKET STOP ROOM ROOM`, `page TICKET STOP ROOM ROOM ROOM`, `check TICKET STOP SHEET`, `choose TICKET STOP SHEET SHEET` or `note TEXT ROOM`,
-// with bytes in hexadecimal and `-` for none; other lines are comments. Standard output has the same lines, each call followed by ` = ` and what it
-// gives, in the vectors' form.
+// `plan TICKET STOP ROOM ROOM`, `page TICKET STOP ROOM ROOM ROOM`, `check TICKET STOP SHEET`, `choose TICKET STOP SHEET SHEET`,
+// `slots TICKET STOP DISK WANTED ROOM` or `note TEXT ROOM`, with bytes in hexadecimal and `-` for none; other lines are comments. Standard output has
+// the same lines, each call followed by ` = ` and what it gives, in the vectors' form.
 use libc::STDIN_FILENO;
 use libc::STDOUT_FILENO;
 use returning::Counts;
 use returning::Mark;
 use returning::Planned;
+use returning::SlotCount;
 use returning::Which;
 ghost use mathlib.Core.Path.{_≡_};
 ghost use Prim.Native.Nat.{_≤_, _<_};
@@ -349,6 +350,60 @@ fn choose_line() {
     choose_between(&ticket[..n], stop, &first[..m], &second[..k]);
 }
 
+// Whether the first field of a sheet says so many rounds.
+fn says_rounds(sheet: &[u8], rounds: usize) -> bool {
+    if sheet.len() < 2 {
+        return false;
+    }
+    if 4095 < rounds {
+        return false;
+    }
+    sheet[0] == (rounds / 16) as u8 && sheet[1] / 16 == (rounds % 16) as u8
+}
+
+// The least slots of a disk, into a filled buffer. After a refusal, and where there is none, the buffer is as it was filled, the part is empty and
+// all counts are 0, so nothing of them is written.
+fn slots_into(ticket: &[u8], stop: usize, disk: usize, wanted: usize, short: &mut [u8]) {
+    let least = planner::least_slots(ticket, stop, disk, wanted, short);
+    write_number(least.number);
+    let part = planner::slots_part(short, least);
+    let sheet = changed(short);
+    let counts = least.counts;
+    let fetches = counts.fetches;
+    let slots = least.slots;
+    match slots {
+        SlotCount::Unanswered => {}
+        SlotCount::NoCount => write(b" none"),
+        SlotCount::Slots(s) => {
+            write_number(s);
+            write_part(b"", part, sheet);
+            write(b" ");
+            write_bytes(sheet);
+            if !says_rounds(part, counts.rounds) {
+                write(b" of other rounds");
+            }
+            return;
+        }
+    }
+    write_left(counts.rounds, fetches);
+    write_bytes(part);
+    write_bytes(sheet);
+}
+
+// A line `slots`.
+fn slots_line() {
+    skip(b' ');
+    let mut ticket = io::buffer();
+    let n = read_bytes(&mut ticket);
+    let stop = read_number();
+    let disk = read_number();
+    let wanted = read_number();
+    let mut short = sheet_buffer();
+    let a = within(read_number(), &short);
+    write(b" =");
+    slots_into(&ticket[..n], stop, disk, wanted, &mut short[..a]);
+}
+
 // The start of a slice up to the last entry that is not as it was filled.
 fn changed_entries<'a>(lent: &'a [u16]) -> &'a [u16] {
     let mut n = lent.len();
@@ -436,6 +491,8 @@ fn line() -> bool {
         sheet_line();
     } else if b == b'n' {
         note_line();
+    } else if b == b's' {
+        slots_line();
     } else {
         skip(b'\n');
     }

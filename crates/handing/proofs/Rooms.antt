@@ -112,10 +112,10 @@ module _ (j : Job) (sound : Sound j) where
     bits-few = let m = bytes-few in omega (arith, m)
 
     -- the scratch bytes have room for the sheet, and their front is the sheet
-    scratch-room : (s : List ℕ) → s ≡ bytes 40968 (sheetBits (theSchedule rule)) → (length s ≡ 40968) × ((r .bits + 7) / 8 ≤ 40968)
+    pub scratch-room : (s : List ℕ) → s ≡ bytes 40968 (sheetBits (theSchedule rule)) → (length s ≡ 40968) × ((r .bits + 7) / 8 ≤ 40968)
     scratch-room s p = (ap length p ∙ length-bytes 40968 (sheetBits (theSchedule rule)), let few = bytes-few in omega (arith, few))
 
-    copied : (s lent lent′ : List ℕ) → s ≡ bytes 40968 (sheetBits (theSchedule rule)) → lent′ ≡ over (take ((r .bits + 7) / 8) s) lent
+    pub copied : (s lent lent′ : List ℕ) → s ≡ bytes 40968 (sheetBits (theSchedule rule)) → lent′ ≡ over (take ((r .bits + 7) / 8) s) lent
         → lent′ ≡ over (sheetOf (theSchedule rule)) lent
     unfolding totalsOf sheetOf pack
     copied s lent lent′ p w =

@@ -16,7 +16,7 @@ ghost use Rattle.returning.specs.Returning.{plannedAs, plannedPageAs};
 ghost use Rattle.handing.specs.Handing.{totalCounts, outcomeOf};
 
 // The rounds and fetches of a plan.
-fn counted(plan: Totals) -> Counts
+pub fn counted(plan: Totals) -> Counts
     ensures { λ r. ⌜ r ≡ totalCounts plan ⌝ }
 {
     let fetches = plan.fetches;
@@ -41,7 +41,7 @@ fn outcome(short: Totals, m: usize, sparing: Totals, n: usize) -> Planned
 }
 
 // How many bytes the sheet of a plan has.
-fn sheet_length(plan: Totals) -> usize
+pub fn sheet_length(plan: Totals) -> usize
     requires { ⌜ plan .bits < 2 ^ 32 ⌝ }
     ensures { λ r. ⌜ r ≡ bytesFor (plan .bits) ⌝ }
 {

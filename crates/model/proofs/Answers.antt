@@ -1,145 +1,24 @@
 -- Document 01, "Jobs worked through": the jobs marked P as one table of calls and what each gives, with rows for the order in which the numbers
 -- of a refusal are tested, which no theorem sees, and for the calls of document 02. "Cases marked P are proved together as one table over the
--- definitions": each row ends in the proof that its call gives what it says, by computation. Assumes nothing.
+-- definitions": each row (`Rows`) ends in the proof that its call gives what it says, by computation. The jobs are those of `Jobs`. Assumes nothing.
 use mathlib.Core.Path.{_≡_, refl}
 use mathlib.Core.Bool.{true, false}
-use mathlib.Core.List.{List, [], _∷_, _++_, map}
-use Prim.Native.Nat.{ℕ, zero, suc, _/_, _%_, _^_}
-use Prim.Native.String.{String}
+use mathlib.Core.List.{List, [], _∷_}
 use native.Mathlib.Omega.{arith}
-use lib.ListN.{length, replicate}
-use Rattle.bits.specs.Reading.{Answer, given, refused, bind, _>>=_, _>>_, give, field, refuseIf, many, isClosed, closing, answer, readAll}
+use Rattle.bits.specs.Reading.{bind, _>>=_, _>>_, give, field, refuseIf, many, isClosed, closing, answer, readAll}
 use Rattle.model.specs.Job.{Job, upTo}
 use Rattle.model.specs.Ticket.{slotsField, diskField, refField, carriedBlocks, carriedField, carriedFields, ticketReader, ticketOf}
-use Rattle.model.specs.Playing.{fetch, replace, Schedule, noneResident, start, load, play}
+use Rattle.model.specs.Playing.{noneResident, start, load, play}
 use Rattle.model.specs.Text.{text}
 use Rattle.model.specs.Page.{ended}
 use Rattle.model.specs.Sheet.{discardReader, fetchReader, actionReader, roundReader, roundsReader, sheetReader, scheduleRead}
 use Rattle.model.specs.Valid.{discardsFullFrom}
-use Rattle.model.specs.Calls.{stopAt, jobUpTo, referencesOf, Counts, SparingWithin, Which, isFirst, isSecond, Mark, isShort, isSparing, Planned, planAnswer, pageAnswer, checkAnswer, ChosenSheet, chooseAnswer, countsNumbers, planningNumbers, choiceNumbers, countsWritten}
+use Rattle.model.specs.Calls.{stopAt, jobUpTo, SparingWithin, isFirst, isSecond, isShort, isSparing}
+use Rattle.model.specs.Slots.{withSheet}
+use Rattle.model.proofs.Rows.{hex, read, plan, planInto, page, check, choose, least, planFromC, checkFromC, chooseFromC, passes, writes, number, findsNone, job, outcome, Case, rowUpTo, ticketIn, row, jobWith, jobCarrying, counts, planned, pageWith, chose, found}
+use Rattle.model.proofs.Jobs.{ticketA, ticketB, ticketC, ticketD, ticketE, ticketF, ticketG, ticketTwo, jobTwo, replacing, ticketWaiting, jobWaiting, countsShort, countsWaiting, ticketTen, ticketHundred, ticketBoth, ticketAgain, ticketFull, ticketAll, linesF, linesG, linesG5, linesBoth, linesFull, linesTen}
 
--- The k bytes whose hexadecimal digits are those of v: `hex 2 0x0018` is 00 18.
-unfoldable pub hex : ℕ → ℕ → List ℕ
-hex zero v = []
-hex (suc k) v = (v / 256 ^ k % 256) ∷ hex k v
-
--- A call, and what a call gives. `planInto` plans a ticket into two buffers of the lengths that it is given, `plan` into two of the longest sheet's
--- 40,962 bytes; `page` plans it with a third buffer, and shows the page. A call from C, whose last bytes are a slice for its counts, gives what the
--- slice then has. Each is made with a stop (L5).
-pub data Call : Type 0 where
-  read : List ℕ → Call
-  plan : List ℕ → Call
-  planInto : List ℕ → ℕ → ℕ → Call
-  page : List ℕ → ℕ → ℕ → ℕ → Call
-  check : List ℕ → List ℕ → Call
-  choose : List ℕ → List ℕ → List ℕ → Call
-  planFromC : List ℕ → List ℕ → Call
-  checkFromC : List ℕ → List ℕ → List ℕ → Call
-  chooseFromC : List ℕ → List ℕ → List ℕ → List ℕ → Call
-
-pub data Outcome : Type 0 where
-  job : Job → Outcome
-  plans : Planned → Outcome
-  shows : List ℕ → Outcome
-  passes : Counts → Outcome
-  hands : ChosenSheet → Outcome
-  writes : List ℕ → Outcome
-  number : ℕ → Outcome
-
-outcomeOf : {A : Type 0} → (A → Outcome) → Answer A → Outcome
-outcomeOf f (given a) = f a
-outcomeOf f (refused n) = number n
-
-unfoldable pub outcome : ℕ → Call → Outcome
-unfolding outcomeOf jobUpTo planAnswer pageAnswer checkAnswer chooseAnswer countsWritten
-outcome stop (read t) = outcomeOf job (jobUpTo t stop)
-outcome stop (plan t) = outcomeOf plans (planAnswer t stop 40962 40962)
-outcome stop (planInto t room₁ room₂) = outcomeOf plans (planAnswer t stop room₁ room₂)
-outcome stop (page t room₁ room₂ room₃) = outcomeOf (λ p. shows (p .page)) (pageAnswer t stop room₁ room₂ room₃)
-outcome stop (check t s) = outcomeOf passes (checkAnswer t stop s)
-outcome stop (choose t first second) = outcomeOf hands (chooseAnswer t stop first second)
-outcome stop (planFromC t lent) = writes (countsWritten planningNumbers (planAnswer t stop 40962 40962) lent)
-outcome stop (checkFromC t s lent) = writes (countsWritten countsNumbers (checkAnswer t stop s) lent)
-outcome stop (chooseFromC t first second lent) = writes (countsWritten choiceNumbers (chooseAnswer t stop first second) lent)
-
-pub record Case : Type 0 where
-  pub call : Call
-  pub stop : ℕ
-  pub gives : Outcome
-  pub holds : outcome stop call ≡ gives
-
--- a call with a stop; and one with the stop N of its ticket
-abbrev rowUpTo : (stop : ℕ) (c : Call) (o : Outcome) → outcome stop c ≡ o → Case
-rowUpTo stop c o e = record { call = c; stop = stop; gives = o; holds = e }
-
-ticketIn : Call → List ℕ
-ticketIn (read t) = t
-ticketIn (plan t) = t
-ticketIn (planInto t room₁ room₂) = t
-ticketIn (page t room₁ room₂ room₃) = t
-ticketIn (check t s) = t
-ticketIn (choose t first second) = t
-ticketIn (planFromC t lent) = t
-ticketIn (checkFromC t s lent) = t
-ticketIn (chooseFromC t first second lent) = t
-
-abbrev row : (c : Call) (o : Outcome) → outcome (referencesOf (ticketOf (ticketIn c))) c ≡ o → Case
-row c o e = rowUpTo (referencesOf (ticketOf (ticketIn c))) c o e
-
--- the job of a ticket in which every count of carried blocks is 0, and of any ticket
-abbrev jobWith : List ℕ → List ℕ → List ℕ → Outcome
-jobWith slots disks refs = job (record { slots = slots; blockDisks = disks; refs = refs; carried = replicate (length slots) [] })
-
-abbrev jobCarrying : List ℕ → List ℕ → List ℕ → List (List ℕ) → Outcome
-jobCarrying slots disks refs carried = job (record { slots = slots; blockDisks = disks; refs = refs; carried = carried })
-
--- rounds, and the fetches of disks 0 and 1; the other six disks have none
-abbrev counts : ℕ → ℕ → ℕ → Counts
-counts r a b = record { rounds = r; fetches = a ∷ b ∷ 0 ∷ 0 ∷ 0 ∷ 0 ∷ 0 ∷ 0 ∷ [] }
-
-abbrev planned : Mark → ℕ → Counts → Counts → List ℕ → List ℕ → Outcome
-planned m n a b s t = plans (record { mark = m; partLength = n; short = a; sparing = b; shortSheet = s; sparingSheet = t })
-
--- a page of these lines, with the legend's
-abbrev pageWith : List String → Outcome
-pageWith lines = shows (ended (map text (lines ++ "E empty slot    " ∷ "M min-block out " ∷ "S used sooner   " ∷ "W waits         " ∷ "N none left     " ∷ [])))
-
-abbrev chose : Which → ℕ → Outcome
-chose w n = hands (record { which = w; sheetLength = n })
-
--- the tickets of document 01's jobs
-abbrev ticketA : List ℕ
-ticketA = hex 7 0x10200800100000
-
-abbrev ticketB : List ℕ
-ticketB = hex 6 0x102008000000
-
-abbrev ticketC : List ℕ
-ticketC = hex 10 0x10201000060000800000
-
-abbrev ticketD : List ℕ
-ticketD = hex 13 0x20204040090040000806010000
-
-abbrev ticketE : List ℕ
-ticketE = hex 13 0x20204040090040100c00010000
-
-abbrev ticketF : List ℕ
-ticketF = hex 17 0x2020805009200e020180002020200c0000
-
-abbrev ticketG : List ℕ
-ticketG = hex 34 0x2060c080002490150000404040180002050301c04040281800010101006000080000
-
--- one disk, two slots, two blocks, string 0 1
-abbrev pub ticketTwo : List ℕ
-ticketTwo = hex 8 0x1040100004000080
-
--- that job, and a schedule in which block 1 replaces block 0 beside the empty slot; with one slot it replaces it in the full one
-abbrev pub jobTwo : Job
-jobTwo = record { slots = 2 ∷ []; blockDisks = 0 ∷ 0 ∷ []; refs = 0 ∷ 1 ∷ []; carried = [] ∷ [] }
-
-abbrev pub replacing : Schedule
-replacing = (fetch 0 ∷ []) ∷ (replace 1 0 ∷ []) ∷ []
-
+-- The schedule `replacing` discards beside an empty slot; with one slot it discards from the full one.
 pub beside-empty : discardsFullFrom jobTwo (start jobTwo) replacing ≡ false
 unfolding discardsFullFrom start noneResident load
 beside-empty = refl
@@ -148,25 +27,7 @@ pub in-full : (let j : Job = record { slots = 1 ∷ []; blockDisks = 0 ∷ 0 ∷
 unfolding discardsFullFrom start noneResident load
 in-full = refl
 
--- A job of Theorem 8 (document 000): two disks with two slots and four blocks each, and sixteen references four times.
-abbrev ticketWaiting : List ℕ
-ticketWaiting = hex 82 0x2040808000249040018000200038100a04008080602028180e06018000200038100a04008080602028180e06018000200038100a04008080602028180e06018000200038100a04008080602028180e060000
-
-abbrev pub jobWaiting : Job
-jobWaiting = record {
-  slots = 2 ∷ 2 ∷ [];
-  blockDisks = 0 ∷ 0 ∷ 0 ∷ 0 ∷ 1 ∷ 1 ∷ 1 ∷ 1 ∷ [];
-  refs = let l : List ℕ = 3 ∷ 0 ∷ 1 ∷ 0 ∷ 7 ∷ 4 ∷ 5 ∷ 4 ∷ 1 ∷ 2 ∷ 3 ∷ 2 ∷ 5 ∷ 6 ∷ 7 ∷ 6 ∷ [] in l ++ l ++ l ++ l;
-  carried = [] ∷ [] ∷ [];
-}
-
-abbrev countsShort : Counts
-countsShort = counts 18 17 17
-
-abbrev countsWaiting : Counts
-countsWaiting = counts 30 17 17
-
--- Request L8, of the two plans in that ticket's row below: 30 rounds are within D times 18, and would not be within D − 1 times;
+-- Request L8, of the two plans in the row of `ticketWaiting`: 30 rounds are within D times 18, and would not be within D − 1 times;
 waiting-within : SparingWithin jobWaiting countsShort countsWaiting
 unfolding SparingWithin
 waiting-within = omega arith
@@ -176,109 +37,11 @@ waiting-most : SparingWithin jobWaiting countsShort (counts 36 17 17) × (Sparin
 unfolding SparingWithin
 waiting-most = (omega arith, λ h. omega (arith, h))
 
--- one disk, one slot, two blocks, string 0 1 0 1 .. of ten references; and one with 101 blocks, string 100 10
-abbrev ticketTen : List ℕ
-ticketTen = hex 17 0x1020100014000080002000080002000080
-
-abbrev ticketHundred : List ℕ
-ticketHundred = hex 46 0x10232800000000000000000000000000000000000000000000000000000000000000000000000000000232028000
-
--- slots 2 and 1, blocks 0 to 2 and 3 to 5, string 3 4 5 0 1 2 1 0
-abbrev ticketBoth : List ℕ
-ticketBoth = hex 18 0x204040600124020060402800020200800000
-
--- one disk, two slots, three blocks, string 0 1 2 1
-abbrev ticketAgain : List ℕ
-ticketAgain = hex 11 0x1040180001000010100400
-
--- F with 1 carried in on disk 0, and 2 and 3 on disk 1, whose slots are then all taken
-abbrev ticketFull : List ℕ
-ticketFull = hex 20 0x2020805009200e020180002020200c0804100806
-
--- the lines of the pages of F, of G, of G up to 5, and of three of these jobs
-abbrev linesF : List String
-linesF =
-    "   1 0   0 --- E" ∷
-    "   1 1   2 --- E" ∷
-    "   2 0 --- --- S" ∷
-    "   2 1   3 --- E" ∷
-    "   3 0   1   0 M" ∷
-    "   3 1 --- --- W" ∷
-    "   4 0 --- --- N" ∷
-    "   4 1   4   2 M" ∷
-    []
-
-abbrev linesG : List String
-linesG =
-    "   1 0   0 --- E" ∷
-    "   1 1   4 --- E" ∷
-    "   2 0   1 --- E" ∷
-    "   2 1   5 --- E" ∷
-    "   3 0   2 --- E" ∷
-    "   3 1   6 --- E" ∷
-    "   4 0   3   2 M" ∷
-    "   4 1   7   4 M" ∷
-    "   5 0   2   3 M" ∷
-    "   5 1   4   7 M" ∷
-    "   6 0   3   2 M" ∷
-    "   6 1 --- --- N" ∷
-    []
-
-abbrev linesG5 : List String
-linesG5 =
-    "   1 0   0 --- E" ∷
-    "   1 1   4 --- E" ∷
-    "   2 0   1 --- E" ∷
-    "   2 1 --- --- N" ∷
-    "   3 0   2 --- E" ∷
-    "   3 1 --- --- N" ∷
-    "   4 0   3   2 M" ∷
-    "   4 1 --- --- N" ∷
-    []
-
-abbrev linesBoth : List String
-linesBoth =
-    "   1 0   0 --- E" ∷
-    "   1 1   3 --- E" ∷
-    "   2 0   1 --- E" ∷
-    "   2 1   4   3 M" ∷
-    "   3 0 --- --- S" ∷
-    "   3 1   5   4 M" ∷
-    "   4 0   2   0 M" ∷
-    "   4 1 --- --- N" ∷
-    "   5 0   0   2 M" ∷
-    "   5 1 --- --- N" ∷
-    []
-
-abbrev linesFull : List String
-linesFull =
-    "   1 0   0   1 M" ∷
-    "   1 1 --- --- W" ∷
-    "   2 0   1   0 M" ∷
-    "   2 1 --- --- W" ∷
-    "   3 0 --- --- N" ∷
-    "   3 1   4   2 M" ∷
-    []
-
-abbrev linesTen : List String
-linesTen =
-    "   1 0   0 --- E" ∷
-    "   2 0   1   0 M" ∷
-    "   3 0   0   1 M" ∷
-    "   4 0   1   0 M" ∷
-    "   5 0   0   1 M" ∷
-    "   6 0   1   0 M" ∷
-    "   7 0   0   1 M" ∷
-    "   8 0   1   0 M" ∷
-    "   9 0   0   1 M" ∷
-    "  10 0   1   0 M" ∷
-    []
-
 -- Where two tests that follow each other can both refuse, a row says which one does. These cannot: 1 inside the last carried block and 8; 10 and the
 -- end inside the first fetch bit, since a sheet has whole bytes; 11 for a block of B or more and 12, since no such block is ever in a buffer; 13 and
 -- either of 20 and 14, since the discard bit leads to 13 or to those two.
 pub table : List Case
-unfolding hex outcome ticketIn stopAt upTo jobUpTo text ended _>>=_ _>>_ bind give field refuseIf many isClosed closing answer readAll slotsField diskField refField carriedBlocks carriedField carriedFields ticketReader ticketOf discardReader fetchReader actionReader roundReader roundsReader sheetReader scheduleRead play load noneResident
+unfolding hex outcome ticketIn stopAt upTo jobUpTo text ended _>>=_ _>>_ bind give field refuseIf many isClosed closing answer readAll slotsField diskField refField carriedBlocks carriedField carriedFields ticketReader ticketOf discardReader fetchReader actionReader roundReader roundsReader sheetReader scheduleRead play load noneResident withSheet
 table =
     -- A: "one disk, one slot, one block, string 0. Both sheets 00 18 00; 1 round; sparing"
     row (read ticketA) (jobWith (1 ∷ []) (0 ∷ []) (0 ∷ [])) refl ∷
@@ -537,14 +300,15 @@ table =
     row (plan (hex 7 0x10200800100020)) (number 25) refl ∷
     row (plan (hex 9 0x102008001000200804)) (number 25) refl ∷
     -- "26, a number not above the one before it, B or more, or on another disk, tested at that number": 1 comes before it, where the ticket ends
-    -- inside the number (0000 and 1111 of 9 bits). Of one disk with two slots and three blocks: 0 and 0, 1 and 0, 3; then 0 and 2, as many as there
-    -- are slots.
+    -- inside the number (0000 and 1111 of 9 bits). Of one disk with two slots and three blocks: 0 and 0, 1 and 0, 3, 0 and 3; then 0 and 2, as many
+    -- as there are slots.
     row (plan (hex 7 0x10200800100010)) (number 1) refl ∷
     row (plan (hex 7 0x1020080010001f)) (number 1) refl ∷
     row (plan (hex 8 0x1020080010001008)) (number 26) refl ∷
     row (plan (hex 12 0x1040180000c0001010200000)) (number 26) refl ∷
     row (plan (hex 12 0x1040180000c0001010200800)) (number 26) refl ∷
     row (plan (hex 11 0x1040180000c00010101018)) (number 26) refl ∷
+    row (plan (hex 12 0x1040180000c000101020000c)) (number 26) refl ∷
     row (read (hex 12 0x1040180000c0001010200008)) (jobCarrying (2 ∷ []) (0 ∷ 0 ∷ 0 ∷ []) (0 ∷ 1 ∷ 2 ∷ []) ((0 ∷ 2 ∷ []) ∷ [])) refl ∷
     row (plan (hex 12 0x1040180000c0001010200008)) (planned isSparing 4 (counts 1 1 0) (counts 1 1 0) (hex 4 0x00180600) (hex 4 0x00180600)) refl ∷
     -- A number that is refused comes before the end inside the next one. Two disks with a slot each, D's: block 2 on disk 0 and block 1 on disk 1; of
@@ -555,6 +319,10 @@ table =
     row (plan (hex 17 0x2020404009004000080601020204020180)) (number 26) refl ∷
     row (plan (hex 17 0x2020404009004000080601040000810080)) (number 25) refl ∷
     row (read (hex 11 0x2020402200040004020400)) (jobCarrying (1 ∷ 1 ∷ []) (1 ∷ 0 ∷ []) (0 ∷ []) ((1 ∷ []) ∷ (0 ∷ []) ∷ [])) refl ∷
+    -- Of disk 1, with two slots: 3 and 2, 2 and 2; then 2 and 3.
+    row (plan (hex 12 0x202080400900100000403010)) (number 26) refl ∷
+    row (plan (hex 12 0x202080400900100000402010)) (number 26) refl ∷
+    row (read (hex 12 0x202080400900100000402018)) (jobCarrying (1 ∷ 2 ∷ []) (0 ∷ 0 ∷ 1 ∷ 1 ∷ []) (0 ∷ []) ([] ∷ (2 ∷ 3 ∷ []) ∷ [])) refl ∷
     -- A number that is not above the one before it, and one on another disk, are refused at that number: before the end inside the next one, before
     -- 25 of the next disk and before the end inside its count, before a closing bit that is 1 and before a byte more.
     row (plan (hex 9 0x106018000001800000)) (number 26) refl ∷
@@ -600,6 +368,39 @@ table =
     -- A slot that is empty beside a block carried in: a discard is 20. One disk, two slots, two blocks, string 0 1, with 1.
     row (plan (hex 10 0x10401000040000810080)) (planned isSparing 3 (counts 1 1 0) (counts 1 1 0) (hex 3 0x001800) (hex 3 0x001800)) refl ∷
     row (check (hex 10 0x10401000040000810080) (hex 4 0x00180201)) (number 20) refl ∷
+    -- Request L10: "the least slot count for that disk, .., with which some sheet finishes within those rounds, the other disks unchanged. Give the
+    -- short sheet for it". G's disk 0, which has three slots: 6 rounds with three, and 5 with four; with two slots 9, with one 13.
+    row (least ticketG 0 6 40962) (found 3 (counts 6 6 5) (hex 23 0x0068010220140a8090320380a078120280e0481e038080)) refl ∷
+    row (least ticketG 0 5 40962) (found 4 (counts 5 4 5) (hex 17 0x0058010220140a8090320340f0220481c0)) refl ∷
+    row (least ticketG 0 8 40962) (found 3 (counts 6 6 5) (hex 23 0x0068010220140a8090320380a078120280e0481e038080)) refl ∷
+    row (least ticketG 0 9 40962) (found 2 (counts 9 9 5) (hex 32 0x0098010220140a80a0181901c0503c0900c0680a0181207806004070120080c0)) refl ∷
+    row (least ticketG 0 13 40962) (found 1 (counts 13 13 5) (hex 43 0x00d801022018020540500c0c80e0281e0480203403002028060481e0080900c0080a014070120080d00c00)) refl ∷
+    row (least ticketG 0 18446744073709551615 43) (found 1 (counts 13 13 5) (hex 43 0x00d801022018020540500c0c80e0281e0480203403002028060481e0080900c0080a014070120080d00c00)) refl ∷
+    -- G's disk 1, which has three slots too: 8 rounds with two, where disk 0 with two would take 9.
+    row (least ticketG 1 8 40962) (found 2 (counts 8 6 6) (hex 27 0x0088010220140a80880e0281a0480a0381e0640903a06816038080)) refl ∷
+    -- "or the answer none": A takes a round with any slots. Up to a stop; nothing to read.
+    row (least ticketA 0 0 40962) findsNone refl ∷
+    row (least ticketA 0 1 40962) (found 1 (counts 1 1 0) (hex 3 0x001800)) refl ∷
+    rowUpTo 4 (least ticketG 0 3 40962) (found 1 (counts 3 3 1) (hex 10 0x00380102201801014020)) refl ∷
+    rowUpTo 0 (least ticketA 0 0 40962) (found 1 (counts 0 0 0) (hex 2 0x0000)) refl ∷
+    -- "from 1 to 64 and not below the blocks it carries in": F with 1 carried in on disk 0, and 2 and 3 on disk 1, up to 2, where nothing has to be
+    -- fetched; and 64 blocks carried in.
+    rowUpTo 2 (least ticketFull 0 0 40962) (found 1 (counts 0 0 0) (hex 2 0x0000)) refl ∷
+    rowUpTo 2 (least ticketFull 1 0 40962) (found 2 (counts 0 0 0) (hex 2 0x0000)) refl ∷
+    row (least ticketAll 0 0 40962) (found 64 (counts 0 0 0) (hex 2 0x0000)) refl ∷
+    -- "Turned away: 27, the disk is not in the ticket, tested after the stop, and 17 where that sheet's buffer is too small": of the 3 bytes of A's
+    -- sheet, exact room and one byte less. 27 comes before 17 and before none, and 21 and the ticket's numbers before 27; none needs no room.
+    row (least ticketA 0 1 3) (found 1 (counts 1 1 0) (hex 3 0x001800)) refl ∷
+    row (least ticketA 0 1 2) (number 17) refl ∷
+    row (least ticketA 0 0 0) findsNone refl ∷
+    row (least ticketA 1 1 2) (number 27) refl ∷
+    row (least ticketA 1 0 40962) (number 27) refl ∷
+    row (least ticketA 18446744073709551615 1 40962) (number 27) refl ∷
+    row (least ticketD 2 4 40962) (number 27) refl ∷
+    rowUpTo 2 (least ticketA 1 1 2) (number 21) refl ∷
+    rowUpTo 2 (least ticketA 0 1 40962) (number 21) refl ∷
+    rowUpTo 2 (least [] 1 1 0) (number 1) refl ∷
+    rowUpTo 2 (least (hex 7 0x10200800100001) 1 1 0) (number 8) refl ∷
     -- From C: "in 16 bits each and most significant byte first: for planning the mark (0 short, 1 sparing), the length of the part, then for the
     -- short and for the sparing plan the rounds and eight fetch counts; for the check the rounds and eight fetch counts", and by L1 "0 (first) or 1
     -- (second) and that sheet's length". "As far as that slice reaches", and no byte more; "a refusal writes nothing there".

@@ -1,3 +1,5 @@
+pub mod Rows
+pub mod Jobs
 pub mod Answers
 pub mod Ticket
 pub mod Stop
@@ -31,4 +33,6 @@ pub mod Text
 pub mod Page
 pub mod PageCall
 pub mod StopCalls
+pub mod Slots
+pub mod SlotsCalls
 pub mod Promises

@@ -163,7 +163,7 @@ sheet-number j s n e = of-whole (of-sheet j (start j)) s n e
 -- the calls, for a ticket t and a stop k (`stop` is here what a reader gives)
 
 -- a number of one list or of the other
-among-left : (n : ℕ) (l m : List ℕ) → among n l ≡ true → among n (l ++ m) ≡ true
+pub among-left : (n : ℕ) (l m : List ℕ) → among n l ≡ true → among n (l ++ m) ≡ true
 unfolding among
 among-left n [] m h = clash h refl
 among-left n (a ∷ l) m h = by-test (eqb n a) (λ e. rw e) (λ e. rw e (among-left n l m (rw e at h)))
@@ -174,11 +174,11 @@ among-right n [] m h = h
 among-right n (a ∷ l) m h = by-test (eqb n a) (λ e. rw e) (λ e. rw e (among-right n l m h))
 
 -- a number that is among small ones is small
-withinAll : ℕ → ℕ → List ℕ → Bool
+unfoldable pub withinAll : ℕ → ℕ → List ℕ → Bool
 withinAll low high [] = true
 withinAll low high (m ∷ more) = leb low m && leb m high && withinAll low high more
 
-among-within : (low high n : ℕ) (l : List ℕ) → withinAll low high l ≡ true → among n l ≡ true → (low ≤ n) × (n ≤ high)
+pub among-within : (low high n : ℕ) (l : List ℕ) → withinAll low high l ≡ true → among n l ≡ true → (low ≤ n) × (n ≤ high)
 unfolding withinAll among
 among-within low high n [] w h = clash h refl
 among-within low high n (m ∷ more) w h =

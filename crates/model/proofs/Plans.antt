@@ -7,7 +7,7 @@ use mathlib.Core.List.{List, [], _∷_, _++_, map}
 use Prim.Native.Nat.{ℕ, zero, suc, _+_, _≤_, _<_}
 use native.Mathlib.Omega.{arith}
 use lib.Dec.{ltb}
-use lib.ListN.{length, getD}
+use lib.ListN.{length, getD, take}
 use borrow.Author.Tests.{ltb-true, ltb-false, le-leb}
 use Rattle.bits.proofs.Logic.{by-test, clash, and-true}
 use Rattle.model.specs.Job.{Sound, Job, diskCount, blockCount, refCount, slotsOf, diskOf, refAt}
@@ -255,3 +255,14 @@ module _ (rule : Rule) (lawful : Lawful rule) (j : Job) (sound : Sound j) where
       by-test (ltb (s .next) (refCount j))
       (λ e. let c = plan-consumes s ready (ltb-true _ _ e) in rw (e, planFrom) (omega (arith, c, ih)))
       (λ e. let w = ready .within in rw (e, planFrom) (omega (arith, w)))
+
+-- A plan of fewer rounds is the beginning of a longer one.
+pub plan-take : (rule : Rule) (j : Job) (m n : ℕ) (s : State) → m ≤ n → planFrom rule j m s ≡ take m (planFrom rule j n s)
+unfolding planFrom
+plan-take rule j zero n s l = refl
+plan-take rule j (suc m) zero s l = absurd (omega (arith, l))
+plan-take rule j (suc m) (suc n) s l =
+    let ih = plan-take rule j m n (playRound j s (map action (choices rule j s))) (omega (arith, l)) in
+    by-test (ltb (s .next) (refCount j))
+    (λ e. rw (e, planFrom) (ap (choices rule j s ∷_) ih))
+    (λ e. rw (e, planFrom) refl)

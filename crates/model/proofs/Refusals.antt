@@ -3,11 +3,12 @@ use mathlib.Core.Path.{_≡_, refl, sym, subst}
 use mathlib.Core.Logic.{_↔_, inl}
 use mathlib.Core.Bool.{true}
 use mathlib.Core.List.{List, [], _∷_, _++_}
-use mathlib.Core.Option.{none}
+use mathlib.Core.Option.{none, some}
 use Prim.Native.Nat.{ℕ}
 use lib.Dec.{eqb}
 use borrow.Author.Tests.{eqb-true}
-use Rattle.bits.specs.Reading.{refused, bind, _>>=_, _>>_, give, field, refuseIf, many, isClosed, closing, answer, readAll}
+use Rattle.bits.specs.Bits.{over}
+use Rattle.bits.specs.Reading.{given, refused, bind, _>>=_, _>>_, give, field, refuseIf, many, isClosed, closing, answer, readAll}
 use Rattle.bits.proofs.Logic.{by-test, clash, getD-same}
 use Rattle.model.specs.Job.{upTo}
 use Rattle.model.specs.Ticket.{slotsField, diskField, refField, carriedBlocks, carriedField, carriedFields, ticketReader, ticketOf}
@@ -15,10 +16,12 @@ use Rattle.model.specs.Playing.{noneResident, start, load, play}
 use Rattle.model.specs.Plans.{each}
 use Rattle.model.specs.Sheet.{discardReader, fetchReader, actionReader, roundReader, roundsReader, sheetReader, scheduleRead}
 use Rattle.model.specs.Calls.{stopAt, jobUpTo, noCounts, AllZero, planAnswer, written, shortAfter, sparingAfter, returned, partAfter, pageAnswer, planGiven, pageLength, pageAfter, checkAnswer, countsGiven, chooseAnswer, returnedChoice, sheetAfter, checkRefusals, planRefusals, pageRefusals, among, countsNumbers, planningNumbers, choiceNumbers, countsWritten}
+use Rattle.model.specs.Slots.{withSheet, slotsAnswer, slotsAfter, returnedSlots, slotsPart, slotsRefusals}
 use Rattle.model.proofs.PageCall.{page-refusals}
 use Rattle.model.proofs.Numbers.{check-number, plan-number, page-number}
 use Rattle.model.proofs.TwoSheets.{first-refused, choose-number}
-use Rattle.model.proofs.Answers.{hex}
+use Rattle.model.proofs.SlotsCalls.{slots-number}
+use Rattle.model.proofs.Rows.{hex}
 
 infixr 5 _⊳_
 -- Something for each number of a list.
@@ -39,7 +42,7 @@ all-then : {Q R : ℕ → Type 0} {l m : List ℕ} → ((n : ℕ) → Q n → R 
 all-then f end r = r
 all-then f (_⊳_ {n = n} q more) r = f n q ⊳ all-then f more r
 
--- bytes for which a check is refused with n, and bytes and rooms for which a planning call is, without and with a page
+-- bytes for which a check is refused with n, and bytes and rooms for which a planning call is, without and with a page, and one for the least slots
 abbrev pub CheckRefused : ℕ → Type 0
 CheckRefused n = (t : List ℕ) × (stop : ℕ) × (s : List ℕ) × (checkAnswer t stop s ≡ refused n)
 
@@ -48,6 +51,9 @@ PlanRefused n = (t : List ℕ) × (stop : ℕ) × (room₁ : ℕ) × (room₂ : 
 
 abbrev pub PageRefused : ℕ → Type 0
 PageRefused n = (t : List ℕ) × (stop : ℕ) × (room₁ : ℕ) × (room₂ : ℕ) × (room₃ : ℕ) × (pageAnswer t stop room₁ room₂ room₃ ≡ refused n)
+
+abbrev pub SlotsRefused : ℕ → Type 0
+SlotsRefused n = (t : List ℕ) × (stop : ℕ) × (d : ℕ) × (wanted : ℕ) × (room : ℕ) × (slotsAnswer t stop d wanted room ≡ refused n)
 
 checks : All CheckRefused checkRefusals
 unfolding each hex checkAnswer _>>=_ _>>_ bind give field refuseIf many isClosed closing answer readAll stopAt upTo jobUpTo slotsField diskField refField carriedBlocks carriedField carriedFields ticketReader ticketOf discardReader fetchReader actionReader roundReader roundsReader sheetReader scheduleRead play load noneResident start
@@ -99,6 +105,25 @@ pages =
     all-then (λ n w. (w .0, w .1, w .2, w .3, 0, page-refusals (w .0) (w .1) (w .2) (w .3) 0 n .1 (inl (w .4)))) plans
     ((hex 7 0x10200800100000, 1, 3, 3, 101, refl) ⊳ end)
 
+-- where the ticket or the stop is refused, whatever the disk and the rounds; and A's disk 1, and a sheet of 3 bytes in 2
+least : All SlotsRefused slotsRefusals
+unfolding each hex slotsAnswer _>>=_ _>>_ bind give field refuseIf many isClosed closing answer readAll stopAt upTo jobUpTo slotsField diskField refField carriedBlocks carriedField carriedFields ticketReader ticketOf load noneResident withSheet
+least =
+    ([], 0, 0, 0, 0, refl) ⊳
+    (hex 1 0x00, 0, 0, 0, 0, refl) ⊳
+    (hex 2 0x1000, 0, 0, 0, 0, refl) ⊳
+    (hex 3 0x102000, 0, 0, 0, 0, refl) ⊳
+    (hex 3 0x102009, 0, 0, 0, 0, refl) ⊳
+    (hex 5 0x1020088010, 0, 0, 0, 0, refl) ⊳
+    (hex 6 0x102008002008, 0, 0, 0, 0, refl) ⊳
+    (hex 7 0x10200800100001, 0, 0, 0, 0, refl) ⊳
+    (hex 7 0x10200800100020, 0, 0, 0, 0, refl) ⊳
+    (hex 8 0x1020080010001008, 0, 0, 0, 0, refl) ⊳
+    (hex 7 0x10200800100000, 2, 0, 0, 0, refl) ⊳
+    (hex 7 0x10200800100000, 1, 1, 1, 3, refl) ⊳
+    (hex 7 0x10200800100000, 1, 0, 1, 2, refl) ⊳
+    end
+
 -- both sheets of a choice may be the sheet for which the check is refused
 pub choose-numbers : (n : ℕ) → (among n checkRefusals ≡ true) ↔ ((t : List ℕ) × (stop : ℕ) × (first : List ℕ) × (second : List ℕ) × (chooseAnswer t stop first second ≡ refused n))
 choose-numbers n = (
@@ -114,6 +139,9 @@ plan-numbers n = (all-among plans n, λ w. plan-number (w .0) (w .1) (w .2) (w .
 
 pub page-numbers : (n : ℕ) → (among n pageRefusals ≡ true) ↔ PageRefused n
 page-numbers n = (all-among pages n, λ w. page-number (w .0) (w .1) (w .2) (w .3) (w .4) n (w .5))
+
+pub slots-numbers : (n : ℕ) → (among n slotsRefusals ≡ true) ↔ SlotsRefused n
+slots-numbers n = (all-among least n, λ w. slots-number (w .0) (w .1) (w .2) (w .3) (w .4) n (w .5))
 
 -- "all counts 0"
 
@@ -143,3 +171,18 @@ plan-refused n lent other = ((refl, refl, refl, all-zero, all-zero), refl, refl,
 pub page-refused : (n : ℕ) (lent : List ℕ) → (planGiven (refused n) ≡ refused n) × (pageLength (refused n) ≡ 0) × (pageAfter (refused n) lent ≡ lent)
 unfolding planGiven pageLength written
 page-refused n lent = (refl, refl, refl)
+
+pub slots-refused : (n : ℕ) (lent : List ℕ)
+    → (let r = returnedSlots (refused n) in (r .number ≡ n) × (r .slots ≡ none) × (r .sheetLength ≡ 0) × AllZero (r .counts))
+    × (slotsPart (refused n) lent ≡ [])
+    × (slotsAfter (refused n) lent ≡ lent)
+unfolding returnedSlots slotsPart written
+slots-refused n lent = ((refl, refl, refl, all-zero), refl, refl)
+
+-- the answer none, which writes nothing either
+pub none-written : (lent : List ℕ)
+    → (let r = returnedSlots (given none) in (r .number ≡ 0) × (r .slots ≡ some none) × (r .sheetLength ≡ 0) × AllZero (r .counts))
+    × (slotsPart (given none) lent ≡ [])
+    × (slotsAfter (given none) lent ≡ lent)
+unfolding returnedSlots slotsPart written over
+none-written lent = ((refl, refl, refl, all-zero), refl, refl)

@@ -12,7 +12,9 @@ use Rattle.model.specs.Playing.{Schedule, noneResident, start, load, pla
 use Rattle.model.specs.Sheet.{sheetOf}
 use Rattle.model.specs.Valid.{LegalAll, LegalSheet}
 use Rattle.model.specs.Calls.{stopAt, jobUpTo, Counts, countsOf, checkAnswer}
-use Rattle.model.proofs.Answers.{hex, ticketTwo, jobTwo, replacing, beside-empty}
+use Rattle.model.proofs.Rows.{hex}
+use Rattle.model.proofs.Jobs.{ticketTwo, jobTwo, replacing}
+use Rattle.model.proofs.Answers.{beside-empty}
 use Rattle.model.proofs.Stop.{job-sound}
 use Rattle.model.proofs.Carried.{ready-start}
 use Rattle.model.proofs.Sheets.{RoomAll, Allowed}

@@ -8,3 +8,4 @@ pub mod Page
 pub mod Sheet
 pub mod Valid
 pub mod Calls
+pub mod Slots

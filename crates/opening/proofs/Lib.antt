@@ -1,2 +1,3 @@
 pub mod Sizes
 pub mod Opened
+pub mod Started

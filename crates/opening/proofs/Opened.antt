@@ -2,11 +2,11 @@
 use mathlib.Core.Path.{_≡_, refl, sym, ap, _∙_, subst}
 use mathlib.Core.Logic.{_≢_}
 use mathlib.Core.Bool.{Bool, true, false}
-use mathlib.Core.List.{List, []}
+use mathlib.Core.List.{List}
 use Prim.Native.Nat.{ℕ, zero, suc, _+_, _*_, _≤_, _<_}
 use native.Mathlib.Omega.{arith}
 use lib.Dec.{eqb, ltb}
-use lib.ListN.{length, getD, set, replicate, length-set}
+use lib.ListN.{length, getD, set, length-set}
 use lib.Seq.{getD-set-same, getD-set-other}
 use borrow.Author.Tests.{eqb-true, eqb-false, ltb-true, ltb-false}
 use Rattle.bits.proofs.Logic.{by-test}
@@ -22,12 +22,8 @@ use Rattle.lookup.proofs.Right.{Listed, Pointer, Right, Forward}
 use Rattle.lookup.proofs.StaysRight.{pointer-kept, reading, right-read}
 use Rattle.moving.specs.Moving.{Ahead, moveFrom, movedOn}
 use Rattle.moving.proofs.PointerRight.{Moved, moved-row, moved-laters, moved-looks, moved-rows, moved-moved, moved-stops, forward-ahead}
-use Rattle.opening.specs.Opening.{movedAll, passedAll, carriedDesk}
+use Rattle.opening.specs.Opening.{movedAll, passedAll, carriedDesk, noDesk}
 use Rattle.playing.specs.declared.Buffers.{Buffers}
-
--- a desk of zeros
-abbrev pub noDesk : List (List ℕ)
-noDesk = replicate 4 (replicate 512 0)
 
 -- Nothing is read, and the pointers of the disks below n have moved on: every disk's pointer is right as far as it has come, and those stop at a
 -- missing block or at the end.

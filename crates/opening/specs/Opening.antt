@@ -2,9 +2,11 @@
 use mathlib.Core.Bool.{Bool}
 use mathlib.Core.List.{List}
 use Prim.Native.Nat.{ℕ, zero, suc}
-use lib.ListN.{getD, set}
-use Rattle.lookup.specs.Desk.{NEXT, HELD, withCell, ofBlock}
+use lib.ListN.{getD, set, take, replicate}
+use Rattle.job.specs.declared.Job.{Job as Stored}
+use Rattle.lookup.specs.Desk.{NEXT, HELD, withCell, ofBlock, opened, stepped}
 use Rattle.moving.specs.Moving.{movedOn}
+use Rattle.playing.specs.Playing.{startBuffers}
 use Rattle.playing.specs.declared.Buffers.{Buffers}
 
 -- The pointers of the disks below d moved on, one after the other.
@@ -22,3 +24,22 @@ passedAll refs steps (suc i) desk = withCell (passedAll refs steps i desk) NEXT 
 unfoldable pub carriedDesk : Buffers → List ℕ → ℕ → List ℕ → List (List ℕ) → List (List ℕ) → List (List ℕ)
 unfolding movedAll passedAll
 carriedDesk b blocks disks refs steps desk = passedAll refs steps (b .next) (movedAll refs (b .resident) steps disks (set desk HELD blocks))
+
+-- Tables of zeros, of which the desk and the steps are made.
+abbrev pub noDesk : List (List ℕ)
+noDesk = replicate 4 (replicate 512 0)
+
+abbrev pub noSteps : List (List ℕ)
+noSteps = replicate 2 (replicate 2048 0)
+
+-- The steps of a job by value,
+unfoldable pub startSteps : Stored → List (List ℕ)
+unfolding stepped
+startSteps c = stepped (c .disk) (take (c .count) (c .refs)) noSteps
+
+-- and its desk before round 1. Neither depends on the slots.
+unfoldable pub startDesk : Stored → List (List ℕ)
+unfolding startBuffers startSteps carriedDesk opened
+startDesk c =
+    let refs = take (c .count) (c .refs) in
+    carriedDesk (startBuffers c) (c .carried) (c .disks) refs (startSteps c) (opened (c .disk) refs noDesk)

@@ -1,4 +1,5 @@
-// The desk of a plan before round 1: the desk of empty buffers, made into that of the blocks carried in (document 02, L9).
+// What the plans of a job start from, before round 1: the buffers, with the blocks carried in (document 02, L9), their desk, and the steps.
+use job::Job;
 use lookup::Desk;
 use lookup::Row;
 use lookup::Steps;
@@ -7,9 +8,11 @@ ghost use mathlib.Core.Path.{_≡_};
 ghost use Prim.Native.Nat.{suc, _≤_};
 ghost use lib.ListN.{length};
 ghost use Rattle.bits.specs.Bits.{Below};
+ghost use Rattle.job.specs.Meaning.{Fits};
 ghost use Rattle.lookup.specs.Desk.{ofDisk, looks};
 ghost use Rattle.moving.specs.Moving.{Ahead};
-ghost use Rattle.opening.specs.Opening.{movedAll, passedAll, carriedDesk};
+ghost use Rattle.playing.specs.Playing.{startBuffers};
+ghost use Rattle.opening.specs.Opening.{movedAll, passedAll, carriedDesk, noDesk, noSteps, startSteps, startDesk};
 
 // The pointers of all disks move on, each to its disk's first missing reference.
 fn move_all(disks: usize, refs: &[u16], resident: &[bool; 512], steps: &Steps, desk: &mut Desk)
@@ -37,7 +40,7 @@ fn pass_all(next: usize, refs: &[u16], steps: &Steps, desk: &mut Desk)
 }
 
 // The desk of empty buffers becomes that of the buffers before round 1: `blocks` has what they hold of disk d, from d * 64 on.
-pub fn carry(b: Buffers, blocks: &Row, disks: usize, refs: &[u16], steps: &Steps, desk: &mut Desk)
+fn carry(b: Buffers, blocks: &Row, disks: usize, refs: &[u16], steps: &Steps, desk: &mut Desk)
     requires { ⌜ (disks ≤ 8) × (length (now desk) ≡ 4) × Below (suc (length (now refs))) (looks (now desk)) × (b .next ≤ length (now refs)) ⌝ }
     requires { ⌜ (length (now refs) ≤ 2048) × Below 512 (now refs) × Ahead (length (now refs)) (ofDisk (now steps)) ⌝ }
     ensures { λ _. ⌜ now (desk .exit) ≡ carriedDesk b (now (blocks .entry)) disks (now (refs .entry)) (now (steps .entry)) (now (desk .entry)) ⌝ }
@@ -45,4 +48,22 @@ pub fn carry(b: Buffers, blocks: &Row, disks: usize, refs: &[u16], steps: &Steps
     lookup::put_residents(desk, blocks);
     move_all(disks, refs, &b.resident, steps, desk);
     pass_all(b.next, refs, steps, desk);
+}
+
+// A job before round 1: its buffers; and its desk and its steps, made of tables of zeros. The slots do not matter.
+pub fn open(job: Job, desk: &mut Desk, steps: &mut Steps) -> Buffers
+    requires { ⌜ Fits job × (now desk ≡ noDesk) × (now steps ≡ noSteps) ⌝ }
+    ensures { λ r. ⌜ (r ≡ startBuffers job) × (now (desk .exit) ≡ startDesk job) × (now (steps .exit) ≡ startSteps job) ⌝ }
+{
+    let n = job.count;
+    let disks = job.disks;
+    let all = job.refs;
+    let disk = job.disk;
+    let held = job.held;
+    let blocks = job.carried;
+    let b = Buffers::carrying(disks, held, &blocks).read_on(&all, n);
+    let refs = &all[..n];
+    lookup::open(refs, &disk, desk, steps);
+    carry(b, &blocks, disks, refs, steps, desk);
+    b
 }

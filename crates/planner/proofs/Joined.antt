@@ -1,18 +1,20 @@
 -- What joins the calls: the part that `planner::part` gives of the two buffers and the value that `planner::plan` or `planner::plan_with_page` left,
--- and the sheet that `planner::chosen_sheet` gives of the two sheets and the value that `planner::choose` gave. Assumes nothing.
+-- the sheet that `planner::chosen_sheet` gives of the two sheets and the value that `planner::choose` gave, and the one that `planner::slots_part`
+-- gives of the buffer and the value that `planner::least_slots` left. Assumes nothing.
 use mathlib.Core.Path.{_≡_, refl, sym, ap, _∙_}
 use mathlib.Core.List.{List, []}
 use mathlib.Core.Option.{Option, none, some}
 use Prim.Native.Nat.{ℕ}
-use lib.ListN.{length}
+use lib.ListN.{length, take}
 use Rattle.bits.specs.Reading.{Answer, given, refused}
 use Rattle.model.specs.Calls.{isFirst, isSecond, ofTwo, handed, shortAfter, sparingAfter, returned, partOf, partAfter, planGiven, ChosenSheet, chooseAnswer, returnedChoice, sheetHanded, sheetAfter}
 use Rattle.model.specs.Calls.{Which as WhichGiven}
 use Rattle.model.specs.Calls.{Planned as PlanGiven}
 use Rattle.model.specs.Calls.{PlannedPage as PageGiven}
-use Rattle.model.proofs.Promises.{part-handed, plan-refused, page-exactly, sheet-handed, choose-refused}
-use Rattle.returning.specs.Returning.{plannedAs, whichAs, whichGiven, chosenAs}
-use Rattle.planner.specs.Planner.{planInto, pageInto}
+use Rattle.model.specs.Slots.{SlotsFound, slotsAfter, returnedSlots, slotsPart}
+use Rattle.model.proofs.Promises.{part-handed, plan-refused, page-exactly, sheet-handed, choose-refused, slots-written, none-written, slots-refused}
+use Rattle.returning.specs.Returning.{plannedAs, whichAs, whichGiven, chosenAs, leastAs}
+use Rattle.planner.specs.Planner.{planInto, pageInto, slotsInto}
 
 -- by the contracts of both: what `part` gives after a planning call that gave `a`
 abbrev pub partOfCall : Answer PlanGiven → List ℕ → List ℕ → List ℕ
@@ -70,3 +72,25 @@ sheet-given t stop first second c e = ap (λ (a : Answer ChosenSheet). sheetOfCa
 -- after a refusal it is empty.
 pub sheet-refused : (t : List ℕ) (stop : ℕ) (first second : List ℕ) (n : ℕ) → chooseAnswer t stop first second ≡ refused n → sheetOfCall (chooseAnswer t stop first second) first second ≡ []
 sheet-refused t stop first second n e = ap (λ (a : Answer ChosenSheet). sheetOfCall a first second) e ∙ same-sheet (refused n) first second ∙ choose-refused n first second [] .1
+
+-- by the contracts of both: what `slots_part` gives after a call for the least slots that gave `a`
+abbrev pub slotsPartOfCall : Answer (Option SlotsFound) → List ℕ → List ℕ
+slotsPartOfCall a short = take (leastAs (returnedSlots a) .length) (slotsAfter a short)
+
+same-slots : (a : Answer (Option SlotsFound)) (short : List ℕ) → slotsPartOfCall a short ≡ slotsPart a short
+unfolding leastAs slotsPart
+same-slots a short = refl
+
+-- After a call that found a count it is the short sheet for it, byte for byte;
+pub slots-part-given : (t : List ℕ) (stop d wanted : ℕ) (short : List ℕ) (f : SlotsFound) → slotsInto t stop d wanted short ≡ given (some f)
+    → slotsPartOfCall (slotsInto t stop d wanted short) short ≡ f .sheet
+slots-part-given t stop d wanted short f e =
+    ap (λ (a : Answer (Option SlotsFound)). slotsPartOfCall a short) e ∙ same-slots (given (some f)) short ∙ slots-written t stop d wanted short f e .1
+
+-- where there is none, and after a refusal, it is empty.
+pub slots-part-none : (t : List ℕ) (stop d wanted : ℕ) (short : List ℕ) → slotsInto t stop d wanted short ≡ given none → slotsPartOfCall (slotsInto t stop d wanted short) short ≡ []
+slots-part-none t stop d wanted short e = ap (λ (a : Answer (Option SlotsFound)). slotsPartOfCall a short) e ∙ same-slots (given none) short ∙ none-written short .1
+
+pub slots-part-refused : (t : List ℕ) (stop d wanted : ℕ) (short : List ℕ) (n : ℕ) → slotsInto t stop d wanted short ≡ refused n
+    → slotsPartOfCall (slotsInto t stop d wanted short) short ≡ []
+slots-part-refused t stop d wanted short n e = ap (λ (a : Answer (Option SlotsFound)). slotsPartOfCall a short) e ∙ same-slots (refused n) short ∙ slots-refused n short .1

@@ -3,3 +3,4 @@ pub mod Laws
 mod Promised
 mod TwoSheets
 mod Exports
+mod Slots

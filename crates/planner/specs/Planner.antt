@@ -2,13 +2,16 @@
 use mathlib.Core.Path.{_≡_}
 use mathlib.Core.Logic.{_↔_}
 use mathlib.Core.List.{List}
+use mathlib.Core.Option.{Option, none, some}
 use Prim.Native.Nat.{ℕ, _≤_}
 use lib.ListN.{length, getD}
 use Rattle.bits.specs.Reading.{Answer, given, refused}
 use Rattle.model.specs.Job.{Job}
+use Rattle.model.specs.Ticket.{ticketOf}
 use Rattle.model.specs.Playing.{Schedule}
 use Rattle.model.specs.Valid.{ValidSheet}
 use Rattle.model.specs.Calls.{jobUpTo, Counts, countsOf, fetchesOn, shortCounts, sparingCounts, SparingWithin, ofTwo, isSparing, handedCounts, Planned, planAnswer, PlannedPage, pageAnswer, checkAnswer, ChosenSheet}
+use Rattle.model.specs.Slots.{ticketWith, Least, NoneEnough, SlotsFound, slotsAnswer}
 use Rattle.checking.specs.Checking.{checkedOf}
 use Rattle.checking.specs.declared.Checked.{Checked}
 
@@ -19,6 +22,10 @@ planInto ticket stop short sparing = planAnswer ticket stop (length short) (leng
 -- A planning call with a page, likewise.
 abbrev pub pageInto : List ℕ → ℕ → List ℕ → List ℕ → List ℕ → Answer PlannedPage
 pageInto ticket stop short sparing page = pageAnswer ticket stop (length short) (length sparing) (length page)
+
+-- A call for the least slots of a disk, likewise.
+abbrev pub slotsInto : List ℕ → ℕ → ℕ → ℕ → List ℕ → Answer (Option SlotsFound)
+slotsInto ticket stop d wanted short = slotsAnswer ticket stop d wanted (length short)
 
 -- Demand 2, of what a check returns: it passes a sheet exactly if that is a valid schedule of the ticket's job up to the stop, and with that
 -- schedule's counts.
@@ -57,3 +64,14 @@ Preferred ticket stop first second (given c) =
     × (checkAnswer ticket stop (ofTwo (c .which) second first) ≡ given b)
     × (a .rounds ≤ b .rounds)
 Preferred ticket stop first second (refused n) = Unit {0}
+
+-- Request L10, of a call for the least slots: a count given is the least of those with which some sheet is within the wanted rounds, and the sheet
+-- given passes the check for the ticket with that count, with the counts given, in at most as many rounds as wanted; where none is given, no count is
+-- enough.
+unfoldable pub LeastGiven : List ℕ → ℕ → ℕ → ℕ → Answer (Option SlotsFound) → Type 0
+unfolding ticketOf ticketWith checkAnswer NoneEnough
+LeastGiven ticket stop d wanted (given (some f)) =
+    (j : Job) × (ticketOf ticket ≡ given j) × Least j stop d wanted (f .slots)
+    × (checkAnswer (ticketWith d (f .slots) j) stop (f .sheet) ≡ given (f .counts)) × (f .counts .rounds ≤ wanted)
+LeastGiven ticket stop d wanted (given none) = (j : Job) × (ticketOf ticket ≡ given j) × NoneEnough j stop d wanted
+LeastGiven ticket stop d wanted (refused n) = Unit {0}

@@ -1,16 +1,20 @@
-// The public calls: planning and the part with the sheet to run, planning with a page, the check, the choice between two sheets and the sheet chosen;
-// and planning, check and choice from C. Document 01, its calls; document 02, L1 to L3, and L5: planning, page, check and choice take a stop, "the
-// number of references that count", and any number may be given; 21 if it is above N. L7: rounds are those charged, in all that is returned. L8:
-// planning promises how many rounds the sparing plan takes at most. L9: a ticket has the blocks carried in, from which plans and sheets start.
+// The public calls: planning and the part with the sheet to run, planning with a page, the check, the choice between two sheets and the sheet chosen,
+// the least slots of a disk and the sheet for them; and planning, check and choice from C. Document 01, its calls; document 02, L1 to L3, L10, and
+// L5: all calls take a stop, "the number of references that count", and any number may be given; 21 if it is above N. L7: rounds are those charged,
+// in all that is returned. L8: planning promises how many rounds the sparing plan takes at most. L9: a ticket has the blocks carried in, from which
+// plans and sheets start.
 use checking::Checked;
 use returning::Chosen;
+use returning::LeastSlots;
 use returning::Planned;
 use returning::PlannedPage;
 ghost use mathlib.Core.Path.{_≡_};
+ghost use lib.ListN.{take};
 ghost use Rattle.model.specs.Calls.{markFor, chosen, shortAfter, sparingAfter, returned, partOf, planGiven, pageLength, pageAfter, checkAnswer, chooseAnswer, returnedChoice, sheetHanded, countsWritten, countsNumbers, planningNumbers, choiceNumbers, numberOf};
+ghost use Rattle.model.specs.Slots.{slotsAfter, returnedSlots};
 ghost use Rattle.checking.specs.Checking.{checkedOf};
-ghost use Rattle.returning.specs.Returning.{plannedAs, chosenAs, whichGiven, whichBegins};
-ghost use Rattle.planner.specs.Planner.{planInto, pageInto, Unbeaten, Exact, Promised, Preferred};
+ghost use Rattle.returning.specs.Returning.{plannedAs, chosenAs, leastAs, whichGiven, whichBegins};
+ghost use Rattle.planner.specs.Planner.{planInto, pageInto, slotsInto, Unbeaten, Exact, Promised, Preferred, LeastGiven};
 
 // Planning: a ticket, a stop, and the lent buffers for the short and the sparing sheet. What it returns, both buffers afterwards, and what is
 // promised.
@@ -120,6 +124,41 @@ pub fn chosen_sheet<'a>(first: &'a [u8], second: &'a [u8], chosen: Chosen) -> &'
 {
     let which = chosen.which;
     returning::handed_slice(which, chosen.length, first, second)
+}
+
+// How many slots a disk needs (L10): a ticket, a stop, the disk, the wanted rounds, any number, and a lent buffer for the short sheet. What it
+// returns, the buffer afterwards, and what is promised. `slots_part` hands out the sheet.
+pub fn least_slots(
+    ticket: &[u8],
+    stop: usize,
+    disk: usize,
+    wanted: usize,
+    short: &mut [u8],
+) -> LeastSlots
+    ensures { λ r. ⌜ (let a = slotsInto (now (ticket .entry)) stop disk wanted (now (short .entry)) in
+        (r ≡ leastAs (returnedSlots a))
+        × (now (short .exit) ≡ slotsAfter a (now (short .entry)))
+        × LeastGiven (now (ticket .entry)) stop disk wanted a) ⌝ }
+{
+    let mut read = ticket::read(ticket);
+    let number = ticket::stop_number(read.number, read.job.count, stop);
+    if number != 0 {
+        return returning::slots_refusal(number);
+    }
+    if read.job.disks <= disk {
+        return returning::slots_refusal(27);
+    }
+    read.job.count = stop;
+    least::find(read.job, disk, wanted, short)
+}
+
+// The part with the sheet: of the buffer of a call for the least slots and what that call gave. After a refusal, or where there is no count, it is
+// empty; of another buffer it is as many bytes as there are, at most the sheet's length.
+pub fn slots_part<'a>(short: &'a [u8], least: LeastSlots) -> &'a [u8]
+    ensures bytes { λ r. ⌜ now r ≡ take (least .length) (now (short .entry)) ⌝ }
+    ensures buffer { λ r. ⌜ r .ptr ≡ short .entry .ptr ⌝ }
+{
+    returning::front(short, least.length)
 }
 
 // The check, from C: its number, and its rounds and eight fetch counts in `counts`, as far as that reaches.

@@ -1,1 +1,1 @@
-mod Opened
+pub mod Opened

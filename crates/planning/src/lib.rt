@@ -4,7 +4,6 @@ use driving::Totals;
 use job::Job;
 use lookup::Desk;
 use lookup::Steps;
-use playing::Buffers;
 ghost use mathlib.Core.Path.{_≡_};
 ghost use lib.ListN.{replicate};
 ghost use Rattle.bits.specs.Bits.{bytes, laid};
@@ -40,17 +39,12 @@ pub fn run(
     let n = job.count;
     let disks = job.disks;
     let all = job.refs;
-    let disk = job.disk;
     let every = job.slots;
-    let held = job.held;
-    let blocks = job.carried;
-    let b = Buffers::carrying(disks, held, &blocks).read_on(&all, n);
     let refs = &all[..n];
     let slots = &every[..disks];
     let mut desk: Desk = [[0; 512]; 4];
     let mut steps: Steps = [[0; 2048]; 2];
-    lookup::open(refs, &disk, &mut desk, &mut steps);
-    opening::carry(b, &blocks, disks, refs, &steps, &mut desk);
+    let b = opening::open(job, &mut desk, &mut steps);
     let mut first = desk;
     let short = driving::drive(
         b,

@@ -42,7 +42,8 @@ module _ (c : Stored) (h : Fits c) where
   unfolding startBuffers
   started e f = f ∙ ap (λ (x : Buffers). readOnFrom x (take (c .count) (c .refs))) e
 
-  counted : (d : ℕ) → d < c .disks → length (getD (each (carriedIn (c .held) (c .carried)) 0 (c .disks)) d []) ≡ getD (c .held) d 0
+  -- how many blocks are carried in on a disk
+  pub counted : (d : ℕ) → d < c .disks → length (getD (each (carriedIn (c .held) (c .carried)) 0 (c .disks)) d []) ≡ getD (c .held) d 0
   counted d l =
       let cut = length-take (getD (c .held) d 0) (drop (d * 64) (c .carried)) in
       let left = length-drop (d * 64) (c .carried) in

@@ -1,5 +1,6 @@
--- What `plan` and `page` print: with the stop N, what they printed before there were stops. Document 01: "For F the program prints exactly the lines
--- below"; and G, short, and K's single byte 00, which both programs refuse with 2. Pages are rows of the table in `model`. Assumes nothing.
+-- What `plan`, `page` and `slots` print: with the stop N, what the first two printed before there were stops. Document 01: "For F the program prints
+-- exactly the lines below"; and G, short, and K's single byte 00, which both refuse with 2. Pages are rows of the table in `model`. Document 02, L10:
+-- a count, none and a refusal. Assumes nothing.
 use mathlib.Core.Path.{_≡_, refl, ap}
 use mathlib.Core.List.{List}
 use Prim.Native.Nat.{ℕ}
@@ -8,9 +9,10 @@ use Rattle.model.specs.Job.{upTo}
 use Rattle.model.specs.Ticket.{slotsField, diskField, refField, carriedBlocks, carriedField, carriedFields, ticketReader, ticketOf}
 use Rattle.model.specs.Calls.{stopAt, jobUpTo, plannedFor, pageFor}
 use Rattle.model.specs.Playing.{noneResident, load, play}
-use Rattle.model.proofs.Answers.{hex}
+use Rattle.model.proofs.Rows.{hex}
 use Rattle.model.proofs.Promises.{whole-plan, whole-page}
-use Rattle.report.specs.Report.{linesOf, disksOf, printed, pageLines, pagePrinted}
+use Rattle.model.specs.Slots.{withSheet}
+use Rattle.report.specs.Report.{linesOf, disksOf, printed, pageLines, pagePrinted, slotsPrinted}
 
 -- L5: "A stop equal to N is the old call": the plan, and the page, of all references of the ticket
 pub printed-whole : (t : List ℕ) → printed t ≡ linesOf (disksOf (ticketOf t)) (plannedFor 40962 40962 (ticketOf t))
@@ -44,3 +46,18 @@ prints-K = refl
 pub page-K : pagePrinted 278613 (hex 1 0x00) ≡ hex 10 0x7265667573656420320a
 unfolding pagePrinted hex _>>=_ _>>_ bind give field refuseIf many closing answer readAll stopAt upTo jobUpTo slotsField diskField refField carriedBlocks carriedField carriedFields ticketReader ticketOf
 page-K = refl
+
+-- slots 4: G's disk 0, within 5 rounds
+pub prints-slots : slotsPrinted (hex 34 0x2060c080002490150000404040180002050301c04040281800010101006000080000) 0 5 ≡ hex 8 0x736c6f747320340a
+unfolding slotsPrinted hex _>>=_ _>>_ bind give field refuseIf many closing answer readAll stopAt upTo jobUpTo slotsField diskField refField carriedBlocks carriedField carriedFields ticketReader ticketOf play load noneResident withSheet
+prints-slots = refl
+
+-- none: A within 0 rounds
+pub prints-none : slotsPrinted (hex 7 0x10200800100000) 0 0 ≡ hex 5 0x6e6f6e650a
+unfolding slotsPrinted hex _>>=_ _>>_ bind give field refuseIf many closing answer readAll stopAt upTo jobUpTo slotsField diskField refField carriedBlocks carriedField carriedFields ticketReader ticketOf play load noneResident withSheet
+prints-none = refl
+
+-- refused 27: A has no disk 1
+pub prints-27 : slotsPrinted (hex 7 0x10200800100000) 1 0 ≡ hex 11 0x726566757365642032370a
+unfolding slotsPrinted hex _>>=_ _>>_ bind give field refuseIf many closing answer readAll stopAt upTo jobUpTo slotsField diskField refField carriedBlocks carriedField carriedFields ticketReader ticketOf play load noneResident withSheet
+prints-27 = refl

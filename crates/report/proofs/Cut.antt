@@ -17,7 +17,8 @@ use Rattle.bits.proofs.Reading.{stop-got, got-rest, bind-got, then-got, give-go
 use Rattle.model.specs.Ticket.{slotsField, diskField, refField, carriedBlocks, carriedField, carriedFields, ticketReader, ticketOf}
 use Rattle.model.specs.Job.{Job}
 use Rattle.model.specs.Calls.{stopAt, jobUpTo, referencesOf, planAnswer, plannedFor, pageAnswer, pageFor}
-use Rattle.report.specs.Report.{linesOf, disksOf, printed, pageLines, pagePrinted}
+use Rattle.model.specs.Slots.{slotsFor, slotsAnswer}
+use Rattle.report.specs.Report.{linesOf, disksOf, printed, pageLines, pagePrinted, slotsLine, slotsPrinted}
 
 -- what reading gives where more bits follow
 abbrev more : {A : Type 0} → List ℕ → Read A → Read A
@@ -184,7 +185,7 @@ cut-ticket t =
     let all : bits t ≡ bits s ++ x = ap bits (sym (take-append-drop 3091 t)) ∙ bits-append s (drop 3091 t) in
     sym (ap (λ (l : List ℕ). answer (ticketReader l)) all ∙ ap answer (of-ticket .same (bits s) x (omega (arith, len))) ∙ same-answer x (ticketReader (bits s))))
 
--- What is printed for the first 3,091 bytes of an input is what is printed for the input, by `plan` and by `page`.
+-- What is printed for the first 3,091 bytes of an input is what is printed for the input, by `plan`, by `page` and by `slots`.
 pub cut-printed : (t : List ℕ) → printed (take 3091 t) ≡ printed t
 unfolding printed planAnswer jobUpTo
 cut-printed t = ap (λ (a : Answer Job). linesOf (disksOf a) (plannedFor 40962 40962 (stopAt (referencesOf a) a))) (cut-ticket t)
@@ -192,3 +193,7 @@ cut-printed t = ap (λ (a : Answer Job). linesOf (disksOf a) (plannedFor 40962 4
 pub cut-page : (room : ℕ) (t : List ℕ) → pagePrinted room (take 3091 t) ≡ pagePrinted room t
 unfolding pagePrinted pageAnswer jobUpTo
 cut-page room t = ap (λ (a : Answer Job). pageLines (pageFor 40962 40962 room (stopAt (referencesOf a) a))) (cut-ticket t)
+
+pub cut-slots : (t : List ℕ) (d wanted : ℕ) → slotsPrinted (take 3091 t) d wanted ≡ slotsPrinted t d wanted
+unfolding slotsPrinted slotsAnswer jobUpTo
+cut-slots t d wanted = ap (λ (a : Answer Job). slotsLine (slotsFor d wanted 40962 (stopAt (referencesOf a) a))) (cut-ticket t)

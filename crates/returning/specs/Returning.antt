@@ -5,6 +5,7 @@ use Prim.Native.Nat.{ℕ}
 use lib.Dec.{ltb, eqb}
 use Rattle.bits.specs.Reading.{Answer}
 use Rattle.model.specs.Calls.{isFirst, isSecond, ofTwo, whichFor, isShort, isSparing, Returned, returned, planGiven, pageLength, ReturnedChoice}
+use Rattle.model.specs.Slots.{ReturnedSlots}
 use Rattle.model.specs.Calls.{Which as WhichGiven}
 use Rattle.model.specs.Calls.{PlannedPage as PageGiven}
 use Rattle.model.specs.Calls.{Mark as MarkGiven}
@@ -17,6 +18,9 @@ use Rattle.returning.specs.declared.Mark.the-variants.{Unmarked, Short, 
 use Rattle.returning.specs.declared.Which.{Which}
 use Rattle.returning.specs.declared.Which.the-variants.{Neither, First, Second}
 use Rattle.returning.specs.declared.Chosen.{Chosen}
+use Rattle.returning.specs.declared.SlotCount.{SlotCount}
+use Rattle.returning.specs.declared.SlotCount.the-variants.{Unanswered, NoCount, Slots}
+use Rattle.returning.specs.declared.LeastSlots.{LeastSlots}
 
 -- "the mark (short or sparing)", and no mark
 abbrev pub markAs : Option MarkGiven → Mark
@@ -81,6 +85,16 @@ plannedPageAs a = record { planned = plannedAs (returned (planGiven a)); length 
 -- What a choice returns.
 unfoldable pub chosenAs : ReturnedChoice → Chosen
 chosenAs r = record { number = r .number; which = whichAs (r .which); length = r .sheetLength }
+
+-- L10: "the answer none", or the count; a refused call has neither
+abbrev pub slotCountAs : Option (Option ℕ) → SlotCount
+slotCountAs none = Unanswered
+slotCountAs (some none) = NoCount
+slotCountAs (some (some s)) = Slots s
+
+-- What a call for the least slots returns.
+unfoldable pub leastAs : ReturnedSlots → LeastSlots
+leastAs r = record { number = r .number; slots = slotCountAs (r .slots); length = r .sheetLength; counts = countsAs (r .counts) }
 
 -- The number of two sheets of m and n bytes for two buffers: 17, 18, or 0 where both fit.
 unfoldable pub roomNumber : ℕ → ℕ → ℕ → ℕ → ℕ

@@ -1,15 +1,16 @@
 // What the calls return, by value, for a refusal and else; which of two sheets is handed back; the numbers of rooms that are too small; and counts
-// written for C. Document 01, its calls; document 02, L1 and L2.
+// written for C. Document 01, its calls; document 02, L1, L2 and L10.
 ghost use mathlib.Core.Path.{_≡_};
 ghost use mathlib.Core.List.{_∷_};
-ghost use mathlib.Core.Option.{some};
+ghost use mathlib.Core.Option.{none, some};
 ghost use Prim.Native.Nat.{_*_, _≤_};
 ghost use lib.ListN.{getD, take};
 ghost use Rattle.bits.specs.Fields.{laidAt};
-ghost use Rattle.bits.specs.Reading.{refused};
+ghost use Rattle.bits.specs.Reading.{given, refused};
 ghost use Rattle.model.specs.Plans.{each};
 ghost use Rattle.model.specs.Calls.{whichFor, returned, returnedChoice, sheetHanded, halves};
-ghost use Rattle.returning.specs.Returning.{plannedAs, plannedPageAs, chosenAs, whichAs, whichGiven, whichBegins, markOf, ofWhich, markNumber, preferenceOf, roomNumber, pageNumber};
+ghost use Rattle.model.specs.Slots.{returnedSlots};
+ghost use Rattle.returning.specs.Returning.{plannedAs, plannedPageAs, chosenAs, leastAs, whichAs, whichGiven, whichBegins, markOf, ofWhich, markNumber, preferenceOf, roomNumber, pageNumber};
 
 // The mark of the sheet that is run; `Unmarked` on a refusal.
 pub enum Mark {
@@ -54,6 +55,22 @@ pub struct Chosen {
     pub length: usize,
 }
 
+// The least slot count of a disk, or that there is none; `Unanswered` on a refusal.
+pub enum SlotCount {
+    Unanswered,
+    NoCount,
+    Slots(usize),
+}
+
+// What a call for the least slots gives: its number, 0 where it is not refused; the count, or that there is none; and the length, the rounds and the
+// fetches of the short sheet for it, all 0 where there is none.
+pub struct LeastSlots {
+    pub number: usize,
+    pub slots: SlotCount,
+    pub length: usize,
+    pub counts: Counts,
+}
+
 // A refused planning call.
 pub fn refusal(number: usize) -> Planned
     ensures { λ r. ⌜ r ≡ plannedAs (returned (refused number)) ⌝ }
@@ -89,6 +106,36 @@ pub fn no_choice(number: usize) -> Chosen
         number,
         which: Which::Neither,
         length: 0,
+    }
+}
+
+// A refused call for the least slots.
+pub fn slots_refusal(number: usize) -> LeastSlots
+    ensures { λ r. ⌜ r ≡ leastAs (returnedSlots (refused number)) ⌝ }
+{
+    LeastSlots {
+        number,
+        slots: SlotCount::Unanswered,
+        length: 0,
+        counts: Counts {
+            rounds: 0,
+            fetches: [0; 8],
+        },
+    }
+}
+
+// "The answer none".
+pub fn no_count() -> LeastSlots
+    ensures { λ r. ⌜ r ≡ leastAs (returnedSlots (given none)) ⌝ }
+{
+    LeastSlots {
+        number: 0,
+        slots: SlotCount::NoCount,
+        length: 0,
+        counts: Counts {
+            rounds: 0,
+            fetches: [0; 8],
+        },
     }
 }
 
@@ -138,7 +185,7 @@ pub fn preference(a: usize, m: usize, b: usize, n: usize) -> Chosen
 }
 
 // The first n bytes of a slice, or all that it has.
-fn front<'a>(lent: &'a [u8], n: usize) -> &'a [u8]
+pub fn front<'a>(lent: &'a [u8], n: usize) -> &'a [u8]
     ensures bytes { λ r. ⌜ now r ≡ take n (now (lent .entry)) ⌝ }
     ensures buffer { λ r. ⌜ r .ptr ≡ lent .entry .ptr ⌝ }
 {

@@ -2,7 +2,7 @@
 -- each, and the job of the planner's table. Assumes nothing.
 use mathlib.Core.Path.{_≡_, refl}
 use mathlib.Core.List.{[], _∷_}
-use Rattle.model.proofs.Answers.{jobWaiting}
+use Rattle.model.proofs.Jobs.{jobWaiting}
 use Rattle.tight.specs.Family.{family}
 
 one-disk : family 1 2 1 ≡ record { slots = 2 ∷ []; blockDisks = 0 ∷ 0 ∷ 0 ∷ 0 ∷ []; refs = 3 ∷ 0 ∷ 1 ∷ 0 ∷ 1 ∷ 2 ∷ 3 ∷ 2 ∷ []; carried = [] ∷ [] }
