@@ -5,10 +5,10 @@ use mathlib.Core.List.{List, [], _∷_}
 use mathlib.Core.Option.{none}
 use Prim.Native.Nat.{ℕ, suc, _+_, _*_, _≤_, _<_}
 use native.Mathlib.Omega.{arith}
-use lib.Dec.{ltb, leb}
+use lib.Dec.{leb}
 use lib.ListN.{length, getD, drop, drop-of-length-le}
 use lib.Seq.{drop-cons}
-use borrow.Author.Tests.{ltb-true, ltb-false, leb-true, lt-ltb}
+use borrow.Author.Tests.{leb-true}
 use Rattle.bits.proofs.Logic.{by-test, and-right}
 use Rattle.grammar.specs.Reading.{isDigit, digit}
 use Rattle.pieces.specs.Pieces.{firstDigit}
@@ -17,13 +17,10 @@ use Rattle.arguments.specs.declared.Argument.the-variants.{Malformed, Nu
 
 -- a number that is capped, with a digit more, is capped as if it had not been
 capped-digit : (v d : ℕ) → d ≤ 9 → withDigit (capped v) d ≡ capped (v * 10 + d)
-capped-digit v d l = by-test (ltb 65535 v)
-    (λ y. let big = ltb-true 65535 v y in
-    rw (y, lt-ltb 65535 (65535 * 10 + d) (omega arith), lt-ltb 65535 (v * 10 + d) (omega (arith, big))) refl)
-    (λ y. rw y refl)
+capped-digit v d l = omega arith
 
 capped-few : (n : ℕ) → capped n ≤ 65535
-capped-few n = by-test (ltb 65535 n) (λ y. rw y (omega arith)) (λ y. let l = ltb-false 65535 n y in rw y (omega (arith, l)))
+capped-few n = omega arith
 
 -- The value stands for the number read so far, and the rest of the text for what is left of it.
 pub record ReadTo (t : List ℕ) (i value : ℕ) : Type 0 where

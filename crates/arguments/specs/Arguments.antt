@@ -1,9 +1,8 @@
 -- Numbers that a program is given as its arguments. Assumes nothing.
-use mathlib.Core.Bool.{true, false, cond}
+use mathlib.Core.Bool.{true, false}
 use mathlib.Core.List.{List, [], _∷_}
 use mathlib.Core.Option.{Option, none, some}
-use Prim.Native.Nat.{ℕ, _+_, _*_}
-use lib.Dec.{ltb}
+use Prim.Native.Nat.{ℕ, _+_, _*_, min}
 use Rattle.grammar.specs.Reading.{isDigit, digit}
 use Rattle.arguments.specs.declared.Argument.{Argument}
 use Rattle.arguments.specs.declared.Argument.the-variants.{Malformed, Number}
@@ -21,7 +20,7 @@ numberIn (c ∷ more) = digitsIn 0 (c ∷ more)
 
 -- Numbers from 65,535 on are not told apart: no disk and no count of rounds is so large.
 abbrev pub capped : ℕ → ℕ
-capped n = cond (ltb 65535 n) 65535 n
+capped n = min n 65535
 
 abbrev pub withDigit : ℕ → ℕ → ℕ
 withDigit v d = capped (v * 10 + d)

@@ -1,32 +1,16 @@
-// The pieces of a note, read and built: a block, a note in parentheses, a part with its count, a side that is complete. The references of a piece are
-// built at the end of a line of 2,048 entries; the sides that are complete stand mixed on the left, at the end of another slice of 2,048 entries.
-// More than 2,048 references in all are counted no further, and not built. Document 02, L6.
+// The pieces of a note, read and built: a block, a note in parentheses, a part with its count. The references of a piece are built at the end of a
+// line of 2,048 entries. More than 2,048 references in all are counted no further, and not built. Document 02, L6.
+use mixing::Place;
 ghost use mathlib.Core.Path.{_≡_};
-ghost use Prim.Native.Nat.{_+_, _*_, _≤_, _<_};
+ghost use Prim.Native.Nat.{_≤_};
 ghost use lib.ListN.{length};
-ghost use Rattle.building.specs.Building.{capped, refusedPiece, blockAt, blockLaid, closedAt, countedAt, countedLine, sidesAfter, sideMixed, takenBack, Ready};
-
-// Where a piece of a note is read: the place of its first character, how many parentheses may still be opened, and how many references stand before
-// it in the line and on the left, 2049 for more than 2048.
-pub struct Place {
-    pub at: usize,
-    pub depth: usize,
-    pub line: usize,
-    pub left: usize,
-}
+ghost use Rattle.building.specs.Building.{refusedPiece, blockAt, blockLaid, closedAt, countedAt, countedLine};
 
 // A piece that was read: the place after it and the count of its references, 2049 for more than 2048; or the number of a refusal and where it is met.
 pub struct Piece {
     pub number: usize,
     pub at: usize,
     pub count: usize,
-}
-
-// A count of references, 2049 for more than 2048.
-pub fn cap(n: usize) -> usize
-    ensures { λ r. ⌜ r ≡ capped n ⌝ }
-{
-    if n < 2049 { n } else { 2049 }
 }
 
 // A refusal.
@@ -113,51 +97,6 @@ pub fn counted(text: &[u8], part: Piece, from: Place, line: &mut [u16]) -> Piece
     Piece {
         number: 0,
         at: c.at,
-        count: cap(count),
-    }
-}
-
-// The counts of a note so far: of the side that is read, and of the sides before it, mixed.
-pub struct Sides {
-    pub side: usize,
-    pub mixed: usize,
-}
-
-// A side at the end of the line that is complete, mixed with the sides before it, on the left.
-pub fn mix_side(line: &[u16], left: &mut [u16], from: Place, sides: Sides, complete: bool) -> Sides
-    requires { ⌜ Ready from (now line) (now left) ⌝ }
-    requires { ⌜ (sides .side ≤ 2049) × (sides .mixed ≤ 2049) ⌝ }
-    ensures counts { λ r. ⌜ r ≡ sidesAfter complete sides ⌝ }
-    ensures mixes { λ _. ⌜ now (left .exit) ≡ sideMixed complete (now (line .entry)) from sides (now (left .entry)) ⌝ }
-{
-    if complete {
-        let count = sides.mixed + sides.side;
-        let begin = from.line;
-        if begin + from.left + count <= 2048 {
-            let end = begin + sides.side;
-            let top = 2048 - from.left;
-            let bottom = top - count;
-            mixing::mix(&line[begin..end], &mut left[bottom..top]);
-        }
-        return Sides {
-            side: 0,
-            mixed: cap(count),
-        };
-    }
-    sides
-}
-
-// The sides of a note, all mixed, taken back into the line.
-pub fn take_back(line: &mut [u16], left: &[u16], from: Place, mixed: usize)
-    requires { ⌜ Ready from (now line) (now left) ⌝ }
-    requires { ⌜ mixed ≤ 2049 ⌝ }
-    ensures { λ _. ⌜ now (line .exit) ≡ takenBack (now (left .entry)) from mixed (now (line .entry)) ⌝ }
-{
-    let begin = from.line;
-    if begin + from.left + mixed <= 2048 {
-        let end = begin + mixed;
-        let top = 2048 - from.left;
-        let bottom = top - mixed;
-        mixing::copy(&left[bottom..top], &mut line[begin..end]);
+        count: mixing::cap(count),
     }
 }

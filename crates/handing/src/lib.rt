@@ -1,18 +1,17 @@
-// Planning of a job into lent buffers: both sheets, and the page of the plan handed back, where all fit. Document 01, planning; document 02, L2.
+// Planning of a job into lent buffers: both sheets, where both fit. Document 01, planning.
 use driving::Totals;
 use job::Job;
 use planning::Plans;
 use returning::Counts;
 use returning::Planned;
-use returning::PlannedPage;
 ghost use mathlib.Core.Path.{_≡_};
 ghost use Prim.Native.Nat.{_^_, _≤_, _<_};
 ghost use lib.ListN.{length, take};
 ghost use Rattle.bits.specs.Bits.{bytesFor, over};
 ghost use Rattle.bits.specs.Reading.{given};
 ghost use Rattle.job.specs.Meaning.{jobOf, Fits};
-ghost use Rattle.model.specs.Calls.{plannedFor, shortAfter, sparingAfter, returned, pageFor, planGiven, pageAfter};
-ghost use Rattle.returning.specs.Returning.{plannedAs, plannedPageAs};
+ghost use Rattle.model.specs.Calls.{plannedFor, shortAfter, sparingAfter, returned};
+ghost use Rattle.returning.specs.Returning.{plannedAs};
 ghost use Rattle.handing.specs.Handing.{totalCounts, outcomeOf};
 
 // The rounds and fetches of a plan.
@@ -49,7 +48,7 @@ pub fn sheet_length(plan: Totals) -> usize
 }
 
 // Both sheets copied from where they were made to buffers in which they fit.
-fn hand_out(
+pub fn hand_out(
     plans: Plans,
     first: &[u8],
     second: &[u8],
@@ -95,45 +94,4 @@ pub fn plan_job(job: Job, short: &mut [u8], sparing: &mut [u8]) -> Planned
         return returning::refusal(number);
     }
     hand_out(plans, &first, &second, short, sparing)
-}
-
-// Planning of a job with a page: as `plan_job`, with the reasons of both plans. The page is made from the sheet and the reasons of the plan handed
-// back.
-pub fn page_job(job: Job, short: &mut [u8], sparing: &mut [u8], page: &mut [u8]) -> PlannedPage
-    requires { ⌜ Fits job ⌝ }
-    ensures { λ r. ⌜ (let a = pageFor (length (now (short .entry))) (length (now (sparing .entry))) (length (now (page .entry))) (given (jobOf job)) in
-        (r ≡ plannedPageAs a)
-        × (now (short .exit) ≡ shortAfter (planGiven a) (now (short .entry)))
-        × (now (sparing .exit) ≡ sparingAfter (planGiven a) (now (sparing .entry)))
-        × (now (page .exit) ≡ pageAfter a (now (page .entry)))) ⌝ }
-{
-    let mut first = [0u8; 40968];
-    let mut second = [0u8; 40968];
-    let mut why_first = [0u8; 16384];
-    let mut why_second = [0u8; 16384];
-    let plans = planning::run(
-        job,
-        &mut first,
-        &mut second,
-        &mut why_first,
-        &mut why_second,
-    );
-    let a = plans.short;
-    let b = plans.sparing;
-    let which = returning::which_for(a.rounds, b.rounds);
-    let lines = returning::of_which(which, a.rounds, b.rounds) * job.disks;
-    let length = lines * 17 + 85;
-    let refused = returning::page_number(
-        returning::room_number(sheet_length(a), short.len(), sheet_length(b), sparing.len()),
-        length,
-        page.len(),
-    );
-    if refused != 0 {
-        return returning::page_refusal(refused);
-    }
-    let planned = hand_out(plans, &first, &second, short, sparing);
-    let sheet = returning::handed_slice(which, 40968, &first, &second);
-    let reasons = returning::handed_slice(which, 16384, &why_first, &why_second);
-    printing::put_page(page, sheet, reasons, job.disks, lines);
-    PlannedPage { planned, length }
 }

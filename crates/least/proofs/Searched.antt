@@ -1,13 +1,13 @@
 -- The search: where it begins, what a count that is or is not within the wanted rounds says of it, and what is given for a count. Assumes nothing.
-use mathlib.Core.Path.{_≡_, refl, sym, ap, _∙_, subst}
-use mathlib.Core.Bool.{Bool, false, cond}
+use mathlib.Core.Path.{_≡_, refl, sym, ap, _∙_}
+use mathlib.Core.Bool.{false, cond}
 use mathlib.Core.List.{List}
 use mathlib.Core.Option.{Option, none, some}
-use Prim.Native.Nat.{ℕ, zero, suc, _+_, _-_, _^_, _≤_, _<_}
+use Prim.Native.Nat.{ℕ, suc, _+_, _-_, _^_, _≤_, _<_}
 use native.Mathlib.Omega.{arith}
-use lib.Dec.{ltb, leb, eqb}
+use lib.Dec.{ltb, leb}
 use lib.ListN.{length, take, drop, length-append, length-take, length-drop}
-use borrow.Author.Tests.{ltb-true, ltb-false, le-leb, lt-leb, eqb-true, eqb-false}
+use borrow.Author.Tests.{ltb-false, le-leb, lt-leb}
 use Rattle.bits.specs.Bits.{bytes, over, bytesFor}
 use Rattle.bits.specs.Reading.{Answer, given, refused}
 use Rattle.bits.proofs.Logic.{by-test, and-true, and-false-left, and-false-right}
@@ -17,9 +17,9 @@ use Rattle.model.specs.Rules.{short}
 use Rattle.model.specs.Plans.{scheduleOf}
 use Rattle.model.specs.Sheet.{sheetBits, sheetOf}
 use Rattle.model.specs.Calls.{countsOf, shortCounts, written}
-use Rattle.model.specs.Slots.{withSlots, Allowed, firstOf, within, leastSlots, SlotsFound, foundWith, withSheet, slotsAfter, returnedSlots}
+use Rattle.slot_counts.specs.Slots.{withSlots, Allowed, firstOf, within, leastSlots, SlotsFound, foundWith, withSheet, slotsAfter, returnedSlots}
 use Rattle.model.proofs.Charged.{schedule-charged}
-use Rattle.model.proofs.Slots.{with-sound, first-yes, first-no}
+use Rattle.slot_counts.proofs.Slots.{with-sound, first-yes, first-no, first-skip}
 use Rattle.choosing.specs.declared.Rule.the-variants.{Short}
 use Rattle.driving.specs.Driving.{totalsOf}
 use Rattle.driving.specs.declared.Totals.{Totals}
@@ -34,7 +34,7 @@ use Rattle.least.proofs.Tried.{playedIn, tried-within, tried-beyond}
 -- no more rounds are driven than there are references
 pub tried-few : (wanted count : ℕ) → triedRounds wanted count ≤ count
 unfolding triedRounds
-tried-few wanted count = by-test (ltb wanted count) (λ y. let l = ltb-true wanted count y in rw y (omega (arith, l))) (λ y. rw y (omega arith))
+tried-few wanted count = omega arith
 
 -- a sheet is copied where it fits, and the buffer is as long as it was
 pub handed-long : (m : ℕ) (sheet lent : List ℕ) {after : List ℕ} → after ≡ cond (ltb (length lent) m) lent (over (take m sheet) lent) → length after ≡ length lent
@@ -48,14 +48,6 @@ handed-long m sheet lent e =
     let b = length-drop (length (take m sheet)) lent in
     let c = length-take m sheet in
     rw y (omega (arith, a, b, c, fits)))
-
--- numbers that fail before the others are passed over
-first-skip : (test : ℕ → Bool) (s n k : ℕ) → ((i : ℕ) → s ≤ i → i < s + n → test i ≡ false) → firstOf test s (n + k) ≡ firstOf test (s + n) k
-first-skip test s zero k fails = let e : s ≡ s + 0 = omega arith in let f : 0 + k ≡ k = omega arith in λ i. firstOf test (e i) (f i)
-first-skip test s (suc n) k fails =
-    let e : s + suc n ≡ suc s + n = omega arith in
-    let f : suc n + k ≡ suc (n + k) = omega arith in
-    ap (firstOf test s) f ∙ first-no test s (n + k) (fails s (omega arith) (omega arith)) ∙ first-skip test (suc s) n k (λ i l m. fails i (omega (arith, l)) (omega (arith, m))) ∙ ap (λ (x : ℕ). firstOf test x k) (sym e)
 
 -- The count is still to be found from s on.
 abbrev pub ToFind : Job → ℕ → ℕ → ℕ → Type 0
@@ -75,26 +67,16 @@ module _ (j : Job) (sound : Sound j) (d wanted : ℕ) where
   pub search-from : (carried s : ℕ) → length (carriedOn j d) ≡ carried → carried ≤ 64 → s ≡ lowestCount carried → (1 ≤ s) × (s ≤ 64) × (carried ≤ s) × ToFind j d wanted s
   unfolding lowestCount leastSlots
   search-from carried s e few q =
-      by-test (eqb carried 0)
-      (λ y. let z = eqb-true carried 0 y in
-      let one : s ≡ 1 = q ∙ rw y refl in
-      (omega (arith, one), omega (arith, one), omega (arith, z), subst (λ (x : ℕ). firstOf (within j d wanted) 1 64 ≡ firstOf (within j d wanted) x (65 - x)) (sym one) refl))
-      (λ y. let some = eqb-false carried 0 y in
-      let same : s ≡ carried = q ∙ rw y refl in
-      let from : 1 ≤ carried = some-one carried some in
-      let all : 64 ≡ (s - 1) + (65 - s) = omega (arith, same, few, from) in
-      let at : 1 + (s - 1) ≡ s = omega (arith, same, from) in (
-        omega (arith, same, from),
-        omega (arith, same, few),
-        omega (arith, same),
+      let from : 1 ≤ s = omega (arith, q) in
+      let all : 64 ≡ (s - 1) + (65 - s) = omega (arith, q, few) in
+      let at : 1 + (s - 1) ≡ s = omega (arith, from) in (
+        from,
+        omega (arith, q, few),
+        omega (arith, q),
         ap (firstOf (within j d wanted) 1) all
-            ∙ first-skip (within j d wanted) 1 (s - 1) (65 - s) (λ i l m. below-carried i (omega (arith, m, at, same, e)))
+            ∙ first-skip (within j d wanted) 1 (s - 1) (65 - s) (λ i l m. below-carried i (omega (arith, l, m, q, e)))
             ∙ ap (λ (x : ℕ). firstOf (within j d wanted) x (65 - s)) at,
-      ))
-    where
-      some-one : (n : ℕ) → (n ≡ 0 → ⊥) → 1 ≤ n
-      some-one zero f = absurd (f refl)
-      some-one (suc n) f = omega arith
+      )
 
   module _ (s : ℕ) (allowed : Allowed j d s) (find : ToFind j d wanted s) where
     abbrev k : Job

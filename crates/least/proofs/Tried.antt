@@ -16,11 +16,11 @@ use Rattle.model.specs.Playing.{Schedule, start}
 use Rattle.model.specs.Rules.{Choice, action, short}
 use Rattle.model.specs.Plans.{planFrom, planOf, scheduleOf}
 use Rattle.model.specs.Sheet.{sheetBits}
-use Rattle.model.specs.Slots.{withSlots, Allowed}
+use Rattle.slot_counts.specs.Slots.{withSlots, Allowed}
 use Rattle.model.proofs.Carried.{ready-start}
 use Rattle.model.proofs.Choosing.{short-lawful}
 use Rattle.model.proofs.Plans.{plan-few, plan-take}
-use Rattle.model.proofs.Slots.{with-sound}
+use Rattle.slot_counts.proofs.Slots.{with-sound}
 use Rattle.playing.specs.Playing.{startBuffers}
 use Rattle.playing.specs.declared.Buffers.{Buffers}
 use Rattle.playing.proofs.Started.{counted}
@@ -75,8 +75,8 @@ module _ (k : Job) (sound : Sound k) (wanted : ℕ) where
   unfolding triedRounds
   tried n e =
       by-test (ltb wanted (refCount k))
-      (λ y. subst Tried (sym (e ∙ rw y refl)) (tried-part (ltb-true wanted (refCount k) y)))
-      (λ y. subst Tried (sym (e ∙ rw y refl)) (tried-all (ltb-false wanted (refCount k) y)))
+      (λ y. let l = ltb-true wanted (refCount k) y in subst Tried (let s : suc wanted ≡ n = omega (arith, e, l) in s) (tried-part l))
+      (λ y. let l = ltb-false wanted (refCount k) y in subst Tried (let s : refCount k ≡ n = omega (arith, e, l) in s) (tried-all l))
 
   pub tried-within : (n : ℕ) → n ≡ triedRounds wanted (refCount k) → length (playedIn k n) ≤ wanted → playedIn k n ≡ scheduleOf short k
   tried-within n e l = go (tried n e)

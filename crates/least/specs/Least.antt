@@ -1,10 +1,10 @@
 -- How the least slot count is searched for: where the search begins, how far each plan is driven, and what is given for a count. Assumes nothing.
 use mathlib.Core.Bool.{cond}
-use Prim.Native.Nat.{ℕ, suc}
-use lib.Dec.{ltb, eqb}
+use Prim.Native.Nat.{ℕ, suc, min, max}
+use lib.Dec.{ltb}
 use lib.ListN.{set}
 use Rattle.bits.specs.Reading.{refused}
-use Rattle.model.specs.Slots.{returnedSlots}
+use Rattle.slot_counts.specs.Slots.{returnedSlots}
 use Rattle.job.specs.declared.Job.{Job as Stored}
 use Rattle.driving.specs.declared.Totals.{Totals}
 use Rattle.returning.specs.Returning.{leastAs}
@@ -14,11 +14,11 @@ use Rattle.handing.specs.Handing.{totalCounts}
 
 -- "from 1 to 64 and not below the blocks it carries in": the lowest of these counts
 unfoldable pub lowestCount : ℕ → ℕ
-lowestCount carried = cond (eqb carried 0) 1 carried
+lowestCount carried = max 1 carried
 
 -- the rounds that are driven: one more than wanted, and at most as many as there are references
 unfoldable pub triedRounds : ℕ → ℕ → ℕ
-triedRounds wanted count = cond (ltb wanted count) (suc wanted) count
+triedRounds wanted count = min (suc wanted) count
 
 -- the job by value with s slots on disk d
 unfoldable pub slotted : ℕ → ℕ → Stored → Stored

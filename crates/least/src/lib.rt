@@ -14,7 +14,7 @@ ghost use lib.Dec.{ltb};
 ghost use lib.ListN.{length, take};
 ghost use Rattle.bits.specs.Bits.{bytesFor, over};
 ghost use Rattle.job.specs.Meaning.{jobOf, Fits};
-ghost use Rattle.model.specs.Slots.{leastSlots, withSheet, slotsAfter, returnedSlots};
+ghost use Rattle.slot_counts.specs.Slots.{leastSlots, withSheet, slotsAfter, returnedSlots};
 ghost use Rattle.returning.specs.Returning.{leastAs};
 ghost use Rattle.least.specs.Least.{lowestCount, triedRounds, handedFor};
 

@@ -1,4 +1,3 @@
-mod Backward
 pub mod Laws
 pub mod Rows
 pub mod Right

@@ -1,5 +1,5 @@
--- The rows of a desk: what an entry that is written does to them, and how a desk is opened. Assumes nothing.
-use mathlib.Core.Path.{_≡_, refl, sym, ap, _∙_, subst}
+-- The rows of a desk: what an entry that is written does to them. Assumes nothing.
+use mathlib.Core.Path.{_≡_, sym, ap, _∙_, subst}
 use mathlib.Core.Logic.{_≢_}
 use mathlib.Core.List.{List, []}
 use Prim.Native.Nat.{ℕ, _<_}
@@ -10,8 +10,7 @@ use lib.Seq.{getD-set-same, getD-set-other}
 use borrow.Author.Tests.{eqb-true, eqb-false, ltb-true, ltb-false}
 use Rattle.bits.specs.Bits.{Below}
 use Rattle.bits.proofs.Logic.{by-test}
-use Rattle.lookup.specs.Lookup.{firsts, agains, refDisks}
-use Rattle.lookup.specs.Desk.{row, withCell, ofBlock, opened, stepped}
+use Rattle.lookup.specs.Desk.{row, withCell}
 
 -- another row
 pub row-other : (tables : List (List ℕ)) (r q i v : ℕ) → q ≢ r → row (withCell tables r i v) q ≡ row tables q
@@ -43,17 +42,3 @@ below-cell n tables r q i v below small =
     ∙ List·getD-eq-default (withCell tables r i v) [] {n = r} (let e = length-set tables r (set (row tables r) i v) in omega (arith, past, e))))
     (λ k l. absurd (omega arith))))
     (λ f. subst (Below n) (sym (row-other tables r q i v (eqb-false q r f))) below)
-
--- what `open` writes
-pub desk-opened : (disks refs : List ℕ) (desk : List (List ℕ)) (first led : List ℕ) → first ≡ firsts refs 512 0
-    → led ≡ firsts (refDisks disks refs) 512 0
-    → set (set (set desk 0 first) 1 (row (set desk 0 first) 0)) 3 led ≡ opened disks refs desk
-unfolding opened
-desk-opened disks refs desk first led p q = rw (p, q) refl
-
-pub steps-opened : (disks refs : List ℕ) (steps : List (List ℕ)) (again led : List ℕ) → again ≡ agains refs (ofBlock steps)
-    → led ≡ agains (refDisks disks refs) (row (set steps 0 again) 1)
-    → set (set steps 0 again) 1 led ≡ stepped disks refs steps
-unfolding stepped
-steps-opened disks refs steps again led p q =
-    rw (p, q ∙ ap (agains (refDisks disks refs)) (getD-set-other steps 0 1 again [] (λ e. let z : 1 ≡ 0 = e in omega arith))) refl

@@ -1,8 +1,7 @@
--- The desk of a plan: what its rows are, and what they hold when buffers are empty. Assumes nothing.
+-- The desk of a plan: what its rows are. Assumes nothing.
 use mathlib.Core.List.{List, []}
 use Prim.Native.Nat.{ℕ}
 use lib.ListN.{getD, set}
-use Rattle.lookup.specs.Lookup.{firsts, agains, refDisks}
 
 -- A row of tables, a cell of a row, and the tables with another cell there.
 abbrev pub row : List (List ℕ) → ℕ → List ℕ
@@ -49,14 +48,3 @@ ofBlock steps = row steps 0
 
 abbrev pub ofDisk : List (List ℕ) → List ℕ
 ofDisk steps = row steps 1
-
--- A desk for empty buffers: the first reference of each block, which is also the first from its disk's pointer on, and the first one of each disk.
--- No resident is listed, and what stands in that row does not change.
-unfoldable pub opened : List ℕ → List ℕ → List (List ℕ) → List (List ℕ)
-opened disks refs desk =
-    let first = set desk NEXT (firsts refs 512 0) in
-    set (set first LATER (nexts first)) LOOK (firsts (refDisks disks refs) 512 0)
-
--- The steps of a job. What stands past its references does not change.
-unfoldable pub stepped : List ℕ → List ℕ → List (List ℕ) → List (List ℕ)
-stepped disks refs steps = set (set steps 0 (agains refs (ofBlock steps))) 1 (agains (refDisks disks refs) (ofDisk steps))

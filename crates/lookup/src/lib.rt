@@ -1,12 +1,9 @@
-// The desk of a plan: distances of blocks, residents and pointers of disks, each a row. It is made from the reference list in two backward passes,
-// and kept up in constant time a reference. The steps lead from each reference to the next. How a position is held is known here only; the
-// residents come as a job has its blocks, in 16 bits.
+// The desk of a plan: distances of blocks, residents and pointers of disks, each a row, kept up in constant time a reference. The steps lead from
+// each reference to the next. How a position is held is known here only.
 ghost use mathlib.Core.Path.{_≡_};
 ghost use Prim.Native.Nat.{_<_, _≤_};
-ghost use lib.ListN.{length, getD, set};
-ghost use Rattle.bits.specs.Bits.{Below};
-ghost use Rattle.lookup.specs.Lookup.{firsts, agains, refDisks};
-ghost use Rattle.lookup.specs.Desk.{HELD, cell, withCell, ofBlock, ofDisk, opened, stepped};
+ghost use lib.ListN.{length, getD};
+ghost use Rattle.lookup.specs.Desk.{cell, withCell, ofBlock, ofDisk};
 
 // A position in the reference list. "Never" is the list's length. Document 02, L4: "none exceeds 2048. .. Hold them inside as 16-bit numbers, with
 // every cast shown to lose nothing; callers are untouched."
@@ -35,12 +32,12 @@ pub const LOOK: usize = 3;
 // The tables that do not change: for each reference the next one of its block, and the next one of its disk.
 pub type Steps = [StepRow; 2];
 
-const OF_BLOCK: usize = 0;
+pub const OF_BLOCK: usize = 0;
 
-const OF_DISK: usize = 1;
+pub const OF_DISK: usize = 1;
 
 // A number as a position, and a position as a number. Nothing is lost: what is given back is the same number.
-fn position(i: usize) -> Position
+pub fn position(i: usize) -> Position
     requires { ⌜ i ≤ 2048 ⌝ }
     ensures { λ r. ⌜ r ≡ i ⌝ }
 {
@@ -51,56 +48,6 @@ fn number(p: Position) -> usize
     ensures { λ r. ⌜ r ≡ p ⌝ }
 {
     p as usize
-}
-
-// The first reference of each block, and for each reference the next one of its block.
-fn index(refs: &[u16], first: &mut Row, again: &mut StepRow)
-    requires { ⌜ (length (now refs) ≤ 2048) × Below 512 (now refs) ⌝ }
-    ensures { λ _. ⌜ now (first .exit) ≡ firsts (now (refs .entry)) 512 0 ⌝ }
-    ensures { λ _. ⌜ now (again .exit) ≡ agains (now (refs .entry)) (now (again .entry)) ⌝ }
-{
-    let mut i = refs.len();
-    *first = [position(i); 512];
-    while 0 < i {
-        i -= 1;
-        let block = refs[i] as usize;
-        again[i] = first[block];
-        first[block] = position(i);
-    }
-}
-
-// The first reference of each disk, and for each reference the next one of its disk.
-fn chain(refs: &[u16], disk_of: &[u16; 512], first: &mut Row, again: &mut StepRow)
-    requires { ⌜ (length (now refs) ≤ 2048) × Below 512 (now refs) × Below 8 (now «disk_of») ⌝ }
-    ensures { λ _. ⌜ now (first .exit) ≡ firsts (refDisks (now («disk_of» .entry)) (now (refs .entry))) 512 0 ⌝ }
-    ensures { λ _. ⌜ now (again .exit) ≡ agains (refDisks (now («disk_of» .entry)) (now (refs .entry))) (now (again .entry)) ⌝ }
-{
-    let mut i = refs.len();
-    *first = [position(i); 512];
-    while 0 < i {
-        i -= 1;
-        let disk = disk_of[refs[i] as usize] as usize;
-        again[i] = first[disk];
-        first[disk] = position(i);
-    }
-}
-
-// The desk and the steps of a job whose buffers are empty.
-pub fn open(refs: &[u16], disk_of: &[u16; 512], desk: &mut Desk, steps: &mut Steps)
-    requires { ⌜ (length (now refs) ≤ 2048) × Below 512 (now refs) × Below 8 (now «disk_of») ⌝ }
-    ensures { λ _. ⌜ now (desk .exit) ≡ opened (now («disk_of» .entry)) (now (refs .entry)) (now (desk .entry)) ⌝ }
-    ensures { λ _. ⌜ now (steps .exit) ≡ stepped (now («disk_of» .entry)) (now (refs .entry)) (now (steps .entry)) ⌝ }
-{
-    index(refs, &mut desk[NEXT], &mut steps[OF_BLOCK]);
-    desk[LATER] = desk[NEXT];
-    chain(refs, disk_of, &mut desk[LOOK], &mut steps[OF_DISK]);
-}
-
-// Sets the residents of all disks, those of disk d from d * 64 on.
-pub fn put_residents(desk: &mut Desk, residents: &Row)
-    ensures { λ _. ⌜ now (desk .exit) ≡ set (now (desk .entry)) HELD (now (residents .entry)) ⌝ }
-{
-    desk[HELD] = *residents;
 }
 
 // Reading or a pointer passes a reference: in the given row, the cell of its block becomes the block's next reference.

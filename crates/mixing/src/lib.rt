@@ -1,8 +1,26 @@
-// References in lent slices: copied, repeated, and two sides taken in turn. Document 02, L6.
+// References in lent slices: copied, repeated, and two sides taken in turn; counts of references, and the place where a piece of a note is read.
+// Document 02, L6.
 ghost use mathlib.Core.Path.{_≡_};
 ghost use Prim.Native.Nat.{_*_, _≤_};
 ghost use lib.ListN.{length, take, drop};
 ghost use Rattle.grammar.specs.Note.{repeated, inTurn};
+ghost use Rattle.mixing.specs.Room.{capped};
+
+// Where a piece of a note is read: the place of its first character, how many parentheses may still be opened, and how many references stand before
+// it in the line and on the left, 2049 for more than 2048.
+pub struct Place {
+    pub at: usize,
+    pub depth: usize,
+    pub line: usize,
+    pub left: usize,
+}
+
+// A count of references, 2049 for more than 2048.
+pub fn cap(n: usize) -> usize
+    ensures { λ r. ⌜ r ≡ capped n ⌝ }
+{
+    if n < 2049 { n } else { 2049 }
+}
 
 // The references of a slice written into another that is as long.
 pub fn copy(from: &[u16], to: &mut [u16])

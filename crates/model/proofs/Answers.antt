@@ -1,6 +1,7 @@
--- Document 01, "Jobs worked through": the jobs marked P as one table of calls and what each gives, with rows for the order in which the numbers
--- of a refusal are tested, which no theorem sees, and for the calls of document 02. "Cases marked P are proved together as one table over the
--- definitions": each row (`Rows`) ends in the proof that its call gives what it says, by computation. The jobs are those of `Jobs`. Assumes nothing.
+-- Document 01, "Jobs worked through": the jobs marked P as one table of calls and what each gives, with rows for the order in which the numbers of a
+-- refusal are tested, which no theorem sees, and for the calls of document 02 but that of L10 (crates/slot_counts/proofs/Answers.antt). "Cases marked
+-- P are proved together as one table over the definitions": each row (`Rows`) ends in the proof that its call gives what it says, by computation. The
+-- jobs are those of `Jobs`. Assumes nothing.
 use mathlib.Core.Path.{_≡_, refl}
 use mathlib.Core.Bool.{true, false}
 use mathlib.Core.List.{List, [], _∷_}
@@ -14,9 +15,8 @@ use Rattle.model.specs.Page.{ended}
 use Rattle.model.specs.Sheet.{discardReader, fetchReader, actionReader, roundReader, roundsReader, sheetReader, scheduleRead}
 use Rattle.model.specs.Valid.{discardsFullFrom}
 use Rattle.model.specs.Calls.{stopAt, jobUpTo, SparingWithin, isFirst, isSecond, isShort, isSparing}
-use Rattle.model.specs.Slots.{withSheet}
-use Rattle.model.proofs.Rows.{hex, read, plan, planInto, page, check, choose, least, planFromC, checkFromC, chooseFromC, passes, writes, number, findsNone, job, outcome, Case, rowUpTo, ticketIn, row, jobWith, jobCarrying, counts, planned, pageWith, chose, found}
-use Rattle.model.proofs.Jobs.{ticketA, ticketB, ticketC, ticketD, ticketE, ticketF, ticketG, ticketTwo, jobTwo, replacing, ticketWaiting, jobWaiting, countsShort, countsWaiting, ticketTen, ticketHundred, ticketBoth, ticketAgain, ticketFull, ticketAll, linesF, linesG, linesG5, linesBoth, linesFull, linesTen}
+use Rattle.model.proofs.Rows.{hex, read, plan, planInto, page, check, choose, planFromC, checkFromC, chooseFromC, passes, writes, number, job, outcome, Case, rowUpTo, ticketIn, row, jobWith, jobCarrying, counts, planned, pageWith, chose}
+use Rattle.model.proofs.Jobs.{ticketA, ticketB, ticketC, ticketD, ticketE, ticketF, ticketG, ticketTwo, jobTwo, replacing, ticketWaiting, jobWaiting, countsShort, countsWaiting, ticketTen, ticketHundred, ticketBoth, ticketAgain, ticketFull, linesF, linesG, linesG5, linesBoth, linesFull, linesTen}
 
 -- The schedule `replacing` discards beside an empty slot; with one slot it discards from the full one.
 pub beside-empty : discardsFullFrom jobTwo (start jobTwo) replacing ≡ false
@@ -41,7 +41,7 @@ waiting-most = (omega arith, λ h. omega (arith, h))
 -- end inside the first fetch bit, since a sheet has whole bytes; 11 for a block of B or more and 12, since no such block is ever in a buffer; 13 and
 -- either of 20 and 14, since the discard bit leads to 13 or to those two.
 pub table : List Case
-unfolding hex outcome ticketIn stopAt upTo jobUpTo text ended _>>=_ _>>_ bind give field refuseIf many isClosed closing answer readAll slotsField diskField refField carriedBlocks carriedField carriedFields ticketReader ticketOf discardReader fetchReader actionReader roundReader roundsReader sheetReader scheduleRead play load noneResident withSheet
+unfolding hex outcome ticketIn stopAt upTo jobUpTo text ended _>>=_ _>>_ bind give field refuseIf many isClosed closing answer readAll slotsField diskField refField carriedBlocks carriedField carriedFields ticketReader ticketOf discardReader fetchReader actionReader roundReader roundsReader sheetReader scheduleRead play load noneResident
 table =
     -- A: "one disk, one slot, one block, string 0. Both sheets 00 18 00; 1 round; sparing"
     row (read ticketA) (jobWith (1 ∷ []) (0 ∷ []) (0 ∷ [])) refl ∷
@@ -368,39 +368,6 @@ table =
     -- A slot that is empty beside a block carried in: a discard is 20. One disk, two slots, two blocks, string 0 1, with 1.
     row (plan (hex 10 0x10401000040000810080)) (planned isSparing 3 (counts 1 1 0) (counts 1 1 0) (hex 3 0x001800) (hex 3 0x001800)) refl ∷
     row (check (hex 10 0x10401000040000810080) (hex 4 0x00180201)) (number 20) refl ∷
-    -- Request L10: "the least slot count for that disk, .., with which some sheet finishes within those rounds, the other disks unchanged. Give the
-    -- short sheet for it". G's disk 0, which has three slots: 6 rounds with three, and 5 with four; with two slots 9, with one 13.
-    row (least ticketG 0 6 40962) (found 3 (counts 6 6 5) (hex 23 0x0068010220140a8090320380a078120280e0481e038080)) refl ∷
-    row (least ticketG 0 5 40962) (found 4 (counts 5 4 5) (hex 17 0x0058010220140a8090320340f0220481c0)) refl ∷
-    row (least ticketG 0 8 40962) (found 3 (counts 6 6 5) (hex 23 0x0068010220140a8090320380a078120280e0481e038080)) refl ∷
-    row (least ticketG 0 9 40962) (found 2 (counts 9 9 5) (hex 32 0x0098010220140a80a0181901c0503c0900c0680a0181207806004070120080c0)) refl ∷
-    row (least ticketG 0 13 40962) (found 1 (counts 13 13 5) (hex 43 0x00d801022018020540500c0c80e0281e0480203403002028060481e0080900c0080a014070120080d00c00)) refl ∷
-    row (least ticketG 0 18446744073709551615 43) (found 1 (counts 13 13 5) (hex 43 0x00d801022018020540500c0c80e0281e0480203403002028060481e0080900c0080a014070120080d00c00)) refl ∷
-    -- G's disk 1, which has three slots too: 8 rounds with two, where disk 0 with two would take 9.
-    row (least ticketG 1 8 40962) (found 2 (counts 8 6 6) (hex 27 0x0088010220140a80880e0281a0480a0381e0640903a06816038080)) refl ∷
-    -- "or the answer none": A takes a round with any slots. Up to a stop; nothing to read.
-    row (least ticketA 0 0 40962) findsNone refl ∷
-    row (least ticketA 0 1 40962) (found 1 (counts 1 1 0) (hex 3 0x001800)) refl ∷
-    rowUpTo 4 (least ticketG 0 3 40962) (found 1 (counts 3 3 1) (hex 10 0x00380102201801014020)) refl ∷
-    rowUpTo 0 (least ticketA 0 0 40962) (found 1 (counts 0 0 0) (hex 2 0x0000)) refl ∷
-    -- "from 1 to 64 and not below the blocks it carries in": F with 1 carried in on disk 0, and 2 and 3 on disk 1, up to 2, where nothing has to be
-    -- fetched; and 64 blocks carried in.
-    rowUpTo 2 (least ticketFull 0 0 40962) (found 1 (counts 0 0 0) (hex 2 0x0000)) refl ∷
-    rowUpTo 2 (least ticketFull 1 0 40962) (found 2 (counts 0 0 0) (hex 2 0x0000)) refl ∷
-    row (least ticketAll 0 0 40962) (found 64 (counts 0 0 0) (hex 2 0x0000)) refl ∷
-    -- "Turned away: 27, the disk is not in the ticket, tested after the stop, and 17 where that sheet's buffer is too small": of the 3 bytes of A's
-    -- sheet, exact room and one byte less. 27 comes before 17 and before none, and 21 and the ticket's numbers before 27; none needs no room.
-    row (least ticketA 0 1 3) (found 1 (counts 1 1 0) (hex 3 0x001800)) refl ∷
-    row (least ticketA 0 1 2) (number 17) refl ∷
-    row (least ticketA 0 0 0) findsNone refl ∷
-    row (least ticketA 1 1 2) (number 27) refl ∷
-    row (least ticketA 1 0 40962) (number 27) refl ∷
-    row (least ticketA 18446744073709551615 1 40962) (number 27) refl ∷
-    row (least ticketD 2 4 40962) (number 27) refl ∷
-    rowUpTo 2 (least ticketA 1 1 2) (number 21) refl ∷
-    rowUpTo 2 (least ticketA 0 1 40962) (number 21) refl ∷
-    rowUpTo 2 (least [] 1 1 0) (number 1) refl ∷
-    rowUpTo 2 (least (hex 7 0x10200800100001) 1 1 0) (number 8) refl ∷
     -- From C: "in 16 bits each and most significant byte first: for planning the mark (0 short, 1 sparing), the length of the part, then for the
     -- short and for the sparing plan the rounds and eight fetch counts; for the check the rounds and eight fetch counts", and by L1 "0 (first) or 1
     -- (second) and that sheet's length". "As far as that slice reaches", and no byte more; "a refusal writes nothing there".

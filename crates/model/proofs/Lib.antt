@@ -11,7 +11,7 @@ pub mod CarriedFields
 pub mod Sheets
 pub mod Check
 pub mod Numbers
-mod Refusals
+pub mod Refusals
 pub mod Longest
 pub mod Distances
 pub mod Choosing
@@ -33,6 +33,4 @@ pub mod Text
 pub mod Page
 pub mod PageCall
 pub mod StopCalls
-pub mod Slots
-pub mod SlotsCalls
 pub mod Promises

@@ -1,11 +1,11 @@
 -- All that is promised of tickets, stops, sheets and pages, over bytes, in the terms of documents 01 and 02. Each promise is closed by one citation.
--- `ticketOf`, `jobUpTo`, `checkAnswer`, `planAnswer`, `chooseAnswer`, `pageAnswer` and `slotsAnswer` (specs/Ticket.antt, specs/Calls.antt,
--- specs/Slots.antt) say what the papers' calls give for any bytes: `given` a value, or `refused` with a number. `jobUpTo t stop` is the job of the
--- ticket t up to a stop, and all that is said of plans, sheets, choices and pages holds for every ticket and stop; fewest rounds and fetches "are
--- then meant among sheets for the part before the stop" (L5). The code is tied to these definitions by its contracts, which are equations with them
--- for every input: `planner::check` returns `checkAnswer`, `planner::plan` returns and writes `planAnswer`, `planner::part` gives `partOf`,
--- `planner::choose` returns `chooseAnswer`, `planner::chosen_sheet` gives `sheetHanded`, `planner::plan_with_page` returns and writes `pageAnswer`,
--- `planner::least_slots` returns and writes `slotsAnswer` (crates/planner/src/lib.rt). Assumes nothing.
+-- `ticketOf`, `jobUpTo`, `checkAnswer`, `planAnswer`, `chooseAnswer` and `pageAnswer` (specs/Ticket.antt, specs/Calls.antt) say what the papers'
+-- calls give for any bytes: `given` a value, or `refused` with a number. `jobUpTo t stop` is the job of the ticket t up to a stop, and all that is
+-- said of plans, sheets, choices and pages holds for every ticket and stop; fewest rounds and fetches "are then meant among sheets for the part
+-- before the stop" (L5). The code is tied to these definitions by its contracts, which are equations with them for every input: `planner::check`
+-- returns `checkAnswer`, `planner::plan` returns and writes `planAnswer`, `planner::part` gives `partOf`, `planner::choose` returns `chooseAnswer`,
+-- `planner::chosen_sheet` gives `sheetHanded`, `planner::plan_with_page` returns and writes `pageAnswer` (crates/planner/src/lib.rt). What is
+-- promised of the least slots (L10) is in crates/slot_counts/proofs/Promises.antt. Assumes nothing.
 use mathlib.Core.Path.{_≡_}
 use mathlib.Core.Logic.{_↔_, _⊎_}
 use mathlib.Core.Bool.{true, false, cond}
@@ -26,7 +26,6 @@ use Rattle.model.specs.Page.{letter, lineOf, legend, ended, pageOf}
 use Rattle.model.specs.Sheet.{sheetOf}
 use Rattle.model.specs.Valid.{ValidTicket, ValidFrom, discardsFullFrom, LegalSheet, ValidSheet}
 use Rattle.model.specs.Calls.{jobUpTo, referencesOf, Counts, countsOf, fetchesOn, AllZero, shortCounts, sparingCounts, SparingWithin, isSecond, ofTwo, isSparing, chosen, Planned, handed, handedCounts, plannedFor, planAnswer, shortAfter, sparingAfter, returned, partAfter, PlannedPage, planHanded, pageFor, pageAnswer, planGiven, pageLength, pageAfter, checkFor, checkAnswer, countsGiven, ChosenSheet, chosenOf, chosenFrom, chooseAnswer, returnedChoice, sheetAfter, checkRefusals, planRefusals, pageRefusals, among, countsNumbers, planningNumbers, choiceNumbers, countsWritten}
-use Rattle.model.specs.Slots.{withSlots, ticketWith, Allowed, Enough, Least, NoneEnough, SlotsFound, foundWith, slotsAnswer, slotsAfter, returnedSlots, slotsPart, slotsRefusals}
 use Rattle.model.proofs.Choosing.{short-lawful, sparing-lawful}
 use Rattle.model.proofs.Carried
 use Rattle.model.proofs.Ticket
@@ -39,8 +38,6 @@ use Rattle.model.proofs.PageCall
 use Rattle.model.proofs.StopCalls
 use Rattle.model.proofs.ChargedCalls
 use Rattle.model.proofs.Waiting
-use Rattle.model.proofs.Slots
-use Rattle.model.proofs.SlotsCalls
 use Rattle.model.proofs.Refusals
 use Rattle.model.proofs.Longest
 
@@ -428,86 +425,3 @@ nothing-fetched = ChargedCalls.nothing-fetched
 -- "Document 01's jobs have every count 0": their buffers are empty before round 1, and nothing is read.
 pub carried-none : (j : Job) → ((d : ℕ) → length (carriedOn j d) ≡ 0) → start j ≡ record { resident = noneResident; next = 0; round = 0 }
 carried-none = Carried.start-empty
-
--- 12. Request L10, "How many slots must we buy?" `slotsAnswer` says what that call gives for a ticket t, a stop, a disk d, wanted rounds and a buffer
--- of `room` bytes. A count is said by sheets: it is enough if some bytes pass the check for the ticket with that count on disk d, with at most the
--- wanted rounds (`Enough`, specs/Slots.antt). The call gives a count, with the short sheet for it, exactly if the ticket has the disk, that count is
--- "the least slot count for that disk, from 1 to 64 and not below the blocks it carries in, with which some sheet finishes within those rounds, the
--- other disks unchanged" (`Least`), and the sheet fits;
-pub slots-found : (t : List ℕ) (stop d wanted room : ℕ) (f : SlotsFound) → (slotsAnswer t stop d wanted room ≡ given (some f))
-    ↔ ((j : Job) × ((ticketOf t ≡ given j) × (stop ≤ refCount j) × (d < diskCount j))
-    × (s : ℕ) × Least j stop d wanted s × (foundWith d (upTo stop j) s ≡ f) × (length (f .sheet) ≤ room))
-slots-found = SlotsCalls.slots-found
-
--- "or the answer none, which is given if no such count exists and in no other case";
-pub slots-none : (t : List ℕ) (stop d wanted room : ℕ) → (slotsAnswer t stop d wanted room ≡ given none)
-    ↔ ((j : Job) × ((ticketOf t ≡ given j) × (stop ≤ refCount j) × (d < diskCount j)) × NoneEnough j stop d wanted)
-slots-none = SlotsCalls.slots-none
-
--- and otherwise it is refused: "27, the disk is not in the ticket, tested after the stop, and 17 where that sheet's buffer is too small".
-pub slots-refusals : (t : List ℕ) (stop d wanted room n : ℕ) → (slotsAnswer t stop d wanted room ≡ refused n)
-    ↔ ((jobUpTo t stop ≡ refused n)
-    ⊎ (((n ≡ 27) × ((j : Job) × (ticketOf t ≡ given j) × (stop ≤ refCount j) × (diskCount j ≤ d)))
-    ⊎ ((n ≡ 17) × ((j : Job) × ((ticketOf t ≡ given j) × (stop ≤ refCount j) × (d < diskCount j))
-    × (s : ℕ) × Least j stop d wanted s × (room < length (foundWith d (upTo stop j) s .sheet))))))
-slots-refusals = SlotsCalls.slots-refusals
-
--- So it is refused with one of 1 to 8, 17, 21 and 25 to 27, and each of these is given for some bytes; and never with 17 where the buffer holds the
--- longest sheet.
-pub slots-numbers : (n : ℕ) → (among n slotsRefusals ≡ true)
-    ↔ ((t : List ℕ) × (stop : ℕ) × (d : ℕ) × (wanted : ℕ) × (room : ℕ) × (slotsAnswer t stop d wanted room ≡ refused n))
-slots-numbers = Refusals.slots-numbers
-
-pub slots-fits : (t : List ℕ) (stop d wanted room : ℕ) → 40962 ≤ room → slotsAnswer t stop d wanted room ≡ refused 17 → ⊥
-slots-fits = SlotsCalls.slots-fits
-
--- "with which some sheet finishes ..., the other disks unchanged": for an allowed count the ticket with that count on disk d is accepted, and its job
--- has that count there, and the slots of the ticket t on every other disk;
-pub count-ticket : (t : List ℕ) (j : Job) → ticketOf t ≡ given j → (d s : ℕ) → d < diskCount j → Allowed j d s
-    → (ticketOf (ticketWith d s j) ≡ given (withSlots d s j))
-    × (slotsOf (withSlots d s j) d ≡ s)
-    × ((e : ℕ) → (e ≡ d → ⊥) → slotsOf (withSlots d s j) e ≡ slotsOf j e)
-count-ticket t j e = Slots.with-ticket j (Ticket.ticket-sound t j e)
-
--- and that count is enough exactly if the short plan for it is within the wanted rounds.
-pub count-enough : (t : List ℕ) (stop : ℕ) (j : Job) → ticketOf t ≡ given j → stop ≤ refCount j → (d s : ℕ) → Allowed j d s → (wanted : ℕ)
-    → Enough j stop d wanted s ↔ (shortCounts (withSlots d s (upTo stop j)) .rounds ≤ wanted)
-count-enough t stop j e few = Slots.enough-exactly j (Ticket.ticket-sound t j e) stop few
-
--- What is given is the least count, and with it "the short sheet for it". It passes the check for the ticket with that count, within the wanted
--- rounds; no sheet for that ticket takes fewer; and it is what planning gives for it.
-pub slots-given : (t : List ℕ) (stop d wanted room : ℕ) (f : SlotsFound) → slotsAnswer t stop d wanted room ≡ given (some f)
-    → (j : Job) × ((ticketOf t ≡ given j) × Least j stop d wanted (f .slots)
-    × (checkAnswer (ticketWith d (f .slots) j) stop (f .sheet) ≡ given (f .counts))
-    × (f .counts .rounds ≤ wanted)
-    × ((s : List ℕ) (c : Counts) → checkAnswer (ticketWith d (f .slots) j) stop s ≡ given c → f .counts .rounds ≤ c .rounds)
-    × ((room₁ room₂ : ℕ) (p : Planned) → planAnswer (ticketWith d (f .slots) j) stop room₁ room₂ ≡ given p → (p .short ≡ f .counts) × (p .shortSheet ≡ f .sheet)))
-slots-given = SlotsCalls.slots-given
-
--- The call returns the number 0, the count, and the length and the counts of the sheet, and writes it; bytes past it stay.
-pub slots-written : (t : List ℕ) (stop d wanted : ℕ) (lent : List ℕ) (f : SlotsFound) → slotsAnswer t stop d wanted (length lent) ≡ given (some f)
-    → (let r = returnedSlots (given (some f)) in (r .number ≡ 0) × (r .slots ≡ some (some (f .slots))) × (r .sheetLength ≡ length (f .sheet)) × (r .counts ≡ f .counts))
-    × (slotsPart (given (some f)) lent ≡ f .sheet)
-    × (length (slotsAfter (given (some f)) lent) ≡ length lent)
-    × (drop (length (f .sheet)) (slotsAfter (given (some f)) lent) ≡ drop (length (f .sheet)) lent)
-slots-written = SlotsCalls.slots-written
-
--- "The answer none .. writes no byte", and a refusal, which is no answer, changes none and hands out no sheet.
-pub none-written : (lent : List ℕ)
-    → (let r = returnedSlots (given none) in (r .number ≡ 0) × (r .slots ≡ some none) × (r .sheetLength ≡ 0) × AllZero (r .counts))
-    × (slotsPart (given none) lent ≡ [])
-    × (slotsAfter (given none) lent ≡ lent)
-none-written = Refusals.none-written
-
-pub slots-refused : (n : ℕ) (lent : List ℕ)
-    → (let r = returnedSlots (refused n) in (r .number ≡ n) × (r .slots ≡ none) × (r .sheetLength ≡ 0) × AllZero (r .counts))
-    × (slotsPart (refused n) lent ≡ [])
-    × (slotsAfter (refused n) lent ≡ lent)
-slots-refused = Refusals.slots-refused
-
--- The ticket's own slots are one of the counts: where its short plan is within the wanted rounds, a count is found, and none above them.
-pub own-slots : (t : List ℕ) (stop d wanted room : ℕ) (j : Job) → ticketOf t ≡ given j → stop ≤ refCount j → d < diskCount j → shortCounts (upTo stop j) .rounds ≤ wanted
-    → (slotsAnswer t stop d wanted room ≡ given none → ⊥)
-    × ((f : SlotsFound) → slotsAnswer t stop d wanted room ≡ given (some f) → f .slots ≤ slotsOf j d)
-own-slots t stop d wanted room j e few l within =
-    (SlotsCalls.own-found t stop d wanted room j e few l within, SlotsCalls.own-most t stop d wanted room j e few l within)

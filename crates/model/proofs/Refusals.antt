@@ -3,33 +3,31 @@ use mathlib.Core.Path.{_≡_, refl, sym, subst}
 use mathlib.Core.Logic.{_↔_, inl}
 use mathlib.Core.Bool.{true}
 use mathlib.Core.List.{List, [], _∷_, _++_}
-use mathlib.Core.Option.{none, some}
+use mathlib.Core.Option.{none}
 use Prim.Native.Nat.{ℕ}
 use lib.Dec.{eqb}
 use borrow.Author.Tests.{eqb-true}
-use Rattle.bits.specs.Bits.{over}
-use Rattle.bits.specs.Reading.{given, refused, bind, _>>=_, _>>_, give, field, refuseIf, many, isClosed, closing, answer, readAll}
+use Rattle.bits.specs.Reading.{refused, bind, _>>=_, _>>_, give, field, refuseIf, many, isClosed, closing, answer, readAll}
 use Rattle.bits.proofs.Logic.{by-test, clash, getD-same}
 use Rattle.model.specs.Job.{upTo}
 use Rattle.model.specs.Ticket.{slotsField, diskField, refField, carriedBlocks, carriedField, carriedFields, ticketReader, ticketOf}
 use Rattle.model.specs.Playing.{noneResident, start, load, play}
 use Rattle.model.specs.Plans.{each}
 use Rattle.model.specs.Sheet.{discardReader, fetchReader, actionReader, roundReader, roundsReader, sheetReader, scheduleRead}
-use Rattle.model.specs.Calls.{stopAt, jobUpTo, noCounts, AllZero, planAnswer, written, shortAfter, sparingAfter, returned, partAfter, pageAnswer, planGiven, pageLength, pageAfter, checkAnswer, countsGiven, chooseAnswer, returnedChoice, sheetAfter, checkRefusals, planRefusals, pageRefusals, among, countsNumbers, planningNumbers, choiceNumbers, countsWritten}
-use Rattle.model.specs.Slots.{withSheet, slotsAnswer, slotsAfter, returnedSlots, slotsPart, slotsRefusals}
+use Rattle.model.specs.Calls.{stopAt, jobUpTo, noCounts, AllZero, planAnswer, written, shortAfter, sparingAfter, returned, partAfter, pageAnswer, planGiven, pageLength, pageAfter, checkAnswer, countsGiven, chooseAnswer, returnedChoice, sheetAfter, jobNumbers, checkRefusals, planRefusals, pageRefusals, among, countsNumbers, planningNumbers, choiceNumbers, countsWritten}
 use Rattle.model.proofs.PageCall.{page-refusals}
 use Rattle.model.proofs.Numbers.{check-number, plan-number, page-number}
 use Rattle.model.proofs.TwoSheets.{first-refused, choose-number}
-use Rattle.model.proofs.SlotsCalls.{slots-number}
+use Rattle.model.proofs.StopCalls.{plan-stops, check-stops}
 use Rattle.model.proofs.Rows.{hex}
 
 infixr 5 _⊳_
 -- Something for each number of a list.
-data All (Q : ℕ → Type 0) : List ℕ → Type 0 where
+pub data All (Q : ℕ → Type 0) : List ℕ → Type 0 where
   end : All Q []
   _⊳_ : {n : ℕ} {more : List ℕ} → Q n → All Q more → All Q (n ∷ more)
 
-all-among : {Q : ℕ → Type 0} {l : List ℕ} → All Q l → (n : ℕ) → among n l ≡ true → Q n
+pub all-among : {Q : ℕ → Type 0} {l : List ℕ} → All Q l → (n : ℕ) → among n l ≡ true → Q n
 unfolding among
 all-among end n e = clash e refl
 all-among {Q} (_⊳_ {n = m} q more) n e =
@@ -38,11 +36,14 @@ all-among {Q} (_⊳_ {n = m} q more) n e =
     (λ y. all-among more n (rw y at e))
 
 -- and, from something for each number of a list, for each number of two
-all-then : {Q R : ℕ → Type 0} {l m : List ℕ} → ((n : ℕ) → Q n → R n) → All Q l → All R m → All R (l ++ m)
+pub all-then : {Q R : ℕ → Type 0} {l m : List ℕ} → ((n : ℕ) → Q n → R n) → All Q l → All R m → All R (l ++ m)
 all-then f end r = r
 all-then f (_⊳_ {n = n} q more) r = f n q ⊳ all-then f more r
 
--- bytes for which a check is refused with n, and bytes and rooms for which a planning call is, without and with a page, and one for the least slots
+-- bytes whose ticket or stop is refused with n, for which a check is, and bytes and rooms for which a planning call is, without and with a page
+abbrev JobRefused : ℕ → Type 0
+JobRefused n = (t : List ℕ) × (stop : ℕ) × (jobUpTo t stop ≡ refused n)
+
 abbrev pub CheckRefused : ℕ → Type 0
 CheckRefused n = (t : List ℕ) × (stop : ℕ) × (s : List ℕ) × (checkAnswer t stop s ≡ refused n)
 
@@ -52,24 +53,28 @@ PlanRefused n = (t : List ℕ) × (stop : ℕ) × (room₁ : ℕ) × (room₂ : 
 abbrev pub PageRefused : ℕ → Type 0
 PageRefused n = (t : List ℕ) × (stop : ℕ) × (room₁ : ℕ) × (room₂ : ℕ) × (room₃ : ℕ) × (pageAnswer t stop room₁ room₂ room₃ ≡ refused n)
 
-abbrev pub SlotsRefused : ℕ → Type 0
-SlotsRefused n = (t : List ℕ) × (stop : ℕ) × (d : ℕ) × (wanted : ℕ) × (room : ℕ) × (slotsAnswer t stop d wanted room ≡ refused n)
+pub jobs : All JobRefused jobNumbers
+unfolding each hex _>>=_ _>>_ bind give field refuseIf many isClosed closing answer readAll stopAt upTo jobUpTo slotsField diskField refField carriedBlocks carriedField carriedFields ticketReader ticketOf
+jobs =
+    ([], 0, refl) ⊳
+    (hex 1 0x00, 0, refl) ⊳
+    (hex 2 0x1000, 0, refl) ⊳
+    (hex 3 0x102000, 0, refl) ⊳
+    (hex 3 0x102009, 0, refl) ⊳
+    (hex 5 0x1020088010, 0, refl) ⊳
+    (hex 6 0x102008002008, 0, refl) ⊳
+    (hex 7 0x10200800100001, 0, refl) ⊳
+    (hex 7 0x10200800100020, 0, refl) ⊳
+    (hex 8 0x1020080010001008, 0, refl) ⊳
+    (hex 7 0x10200800100000, 2, refl) ⊳
+    end
 
+-- where the ticket or the stop is refused, whatever the sheet; and sheets
 checks : All CheckRefused checkRefusals
 unfolding each hex checkAnswer _>>=_ _>>_ bind give field refuseIf many isClosed closing answer readAll stopAt upTo jobUpTo slotsField diskField refField carriedBlocks carriedField carriedFields ticketReader ticketOf discardReader fetchReader actionReader roundReader roundsReader sheetReader scheduleRead play load noneResident start
 checks =
-    ([], 0, [], refl) ⊳
-    (hex 1 0x00, 0, [], refl) ⊳
-    (hex 2 0x1000, 0, [], refl) ⊳
-    (hex 3 0x102000, 0, [], refl) ⊳
-    (hex 3 0x102009, 0, [], refl) ⊳
-    (hex 5 0x1020088010, 0, [], refl) ⊳
-    (hex 6 0x102008002008, 0, [], refl) ⊳
-    (hex 7 0x10200800100001, 0, [], refl) ⊳
-    (hex 7 0x10200800100020, 0, [], refl) ⊳
-    (hex 8 0x1020080010001008, 0, [], refl) ⊳
-    (hex 7 0x10200800100000, 2, [], refl) ⊳
-    (hex 7 0x10200800100000, 1, [], refl) ⊳
+    all-then (λ n w. (w .0, w .1, [], check-stops (w .0) (w .1) n (w .2) [])) jobs
+    ((hex 7 0x10200800100000, 1, [], refl) ⊳
     (hex 7 0x10200800100000, 1, hex 2 0x8010, refl) ⊳
     (hex 7 0x10200800100000, 1, hex 3 0x001816, refl) ⊳
     (hex 7 0x10200800100000, 1, hex 5 0x0028010000, refl) ⊳
@@ -78,25 +83,14 @@ checks =
     (hex 7 0x10200800100000, 1, hex 2 0x0000, refl) ⊳
     (hex 7 0x10200800100000, 1, hex 3 0x001801, refl) ⊳
     (hex 7 0x10200800100000, 1, hex 4 0x00180200, refl) ⊳
-    end
+    end)
 
+-- where the ticket or the stop is refused, whatever the rooms; and A's two sheets of 3 bytes in 2 and 2, and in 3 and 2
 plans : All PlanRefused planRefusals
 unfolding each hex planAnswer _>>=_ _>>_ bind give field refuseIf many isClosed closing answer readAll stopAt upTo jobUpTo slotsField diskField refField carriedBlocks carriedField carriedFields ticketReader ticketOf load noneResident
 plans =
-    ([], 0, 0, 0, refl) ⊳
-    (hex 1 0x00, 0, 0, 0, refl) ⊳
-    (hex 2 0x1000, 0, 0, 0, refl) ⊳
-    (hex 3 0x102000, 0, 0, 0, refl) ⊳
-    (hex 3 0x102009, 0, 0, 0, refl) ⊳
-    (hex 5 0x1020088010, 0, 0, 0, refl) ⊳
-    (hex 6 0x102008002008, 0, 0, 0, refl) ⊳
-    (hex 7 0x10200800100001, 0, 0, 0, refl) ⊳
-    (hex 7 0x10200800100020, 0, 0, 0, refl) ⊳
-    (hex 8 0x1020080010001008, 0, 0, 0, refl) ⊳
-    (hex 7 0x10200800100000, 2, 0, 0, refl) ⊳
-    (hex 7 0x10200800100000, 1, 2, 2, refl) ⊳
-    (hex 7 0x10200800100000, 1, 3, 2, refl) ⊳
-    end
+    all-then (λ n w. (w .0, w .1, 0, 0, plan-stops (w .0) (w .1) n (w .2) 0 0)) jobs
+    ((hex 7 0x10200800100000, 1, 2, 2, refl) ⊳ (hex 7 0x10200800100000, 1, 3, 2, refl) ⊳ end)
 
 -- where planning is refused, whatever the page's room; and A's page of 102 bytes in 101
 pages : All PageRefused pageRefusals
@@ -104,25 +98,6 @@ unfolding hex pageAnswer _>>=_ _>>_ bind give field refuseIf many isClosed closi
 pages =
     all-then (λ n w. (w .0, w .1, w .2, w .3, 0, page-refusals (w .0) (w .1) (w .2) (w .3) 0 n .1 (inl (w .4)))) plans
     ((hex 7 0x10200800100000, 1, 3, 3, 101, refl) ⊳ end)
-
--- where the ticket or the stop is refused, whatever the disk and the rounds; and A's disk 1, and a sheet of 3 bytes in 2
-least : All SlotsRefused slotsRefusals
-unfolding each hex slotsAnswer _>>=_ _>>_ bind give field refuseIf many isClosed closing answer readAll stopAt upTo jobUpTo slotsField diskField refField carriedBlocks carriedField carriedFields ticketReader ticketOf load noneResident withSheet
-least =
-    ([], 0, 0, 0, 0, refl) ⊳
-    (hex 1 0x00, 0, 0, 0, 0, refl) ⊳
-    (hex 2 0x1000, 0, 0, 0, 0, refl) ⊳
-    (hex 3 0x102000, 0, 0, 0, 0, refl) ⊳
-    (hex 3 0x102009, 0, 0, 0, 0, refl) ⊳
-    (hex 5 0x1020088010, 0, 0, 0, 0, refl) ⊳
-    (hex 6 0x102008002008, 0, 0, 0, 0, refl) ⊳
-    (hex 7 0x10200800100001, 0, 0, 0, 0, refl) ⊳
-    (hex 7 0x10200800100020, 0, 0, 0, 0, refl) ⊳
-    (hex 8 0x1020080010001008, 0, 0, 0, 0, refl) ⊳
-    (hex 7 0x10200800100000, 2, 0, 0, 0, refl) ⊳
-    (hex 7 0x10200800100000, 1, 1, 1, 3, refl) ⊳
-    (hex 7 0x10200800100000, 1, 0, 1, 2, refl) ⊳
-    end
 
 -- both sheets of a choice may be the sheet for which the check is refused
 pub choose-numbers : (n : ℕ) → (among n checkRefusals ≡ true) ↔ ((t : List ℕ) × (stop : ℕ) × (first : List ℕ) × (second : List ℕ) × (chooseAnswer t stop first second ≡ refused n))
@@ -140,12 +115,9 @@ plan-numbers n = (all-among plans n, λ w. plan-number (w .0) (w .1) (w .2) (w .
 pub page-numbers : (n : ℕ) → (among n pageRefusals ≡ true) ↔ PageRefused n
 page-numbers n = (all-among pages n, λ w. page-number (w .0) (w .1) (w .2) (w .3) (w .4) n (w .5))
 
-pub slots-numbers : (n : ℕ) → (among n slotsRefusals ≡ true) ↔ SlotsRefused n
-slots-numbers n = (all-among least n, λ w. slots-number (w .0) (w .1) (w .2) (w .3) (w .4) n (w .5))
-
 -- "all counts 0"
 
-all-zero : AllZero noCounts
+pub all-zero : AllZero noCounts
 all-zero = (refl, λ d. getD-same 8 d 0)
 
 pub check-refused : (n : ℕ) (lent : List ℕ) → AllZero (countsGiven (refused n)) × (countsWritten countsNumbers (refused n) lent ≡ lent)
@@ -171,18 +143,3 @@ plan-refused n lent other = ((refl, refl, refl, all-zero, all-zero), refl, refl,
 pub page-refused : (n : ℕ) (lent : List ℕ) → (planGiven (refused n) ≡ refused n) × (pageLength (refused n) ≡ 0) × (pageAfter (refused n) lent ≡ lent)
 unfolding planGiven pageLength written
 page-refused n lent = (refl, refl, refl)
-
-pub slots-refused : (n : ℕ) (lent : List ℕ)
-    → (let r = returnedSlots (refused n) in (r .number ≡ n) × (r .slots ≡ none) × (r .sheetLength ≡ 0) × AllZero (r .counts))
-    × (slotsPart (refused n) lent ≡ [])
-    × (slotsAfter (refused n) lent ≡ lent)
-unfolding returnedSlots slotsPart written
-slots-refused n lent = ((refl, refl, refl, all-zero), refl, refl)
-
--- the answer none, which writes nothing either
-pub none-written : (lent : List ℕ)
-    → (let r = returnedSlots (given none) in (r .number ≡ 0) × (r .slots ≡ some none) × (r .sheetLength ≡ 0) × AllZero (r .counts))
-    × (slotsPart (given none) lent ≡ [])
-    × (slotsAfter (given none) lent ≡ lent)
-unfolding returnedSlots slotsPart written over
-none-written lent = ((refl, refl, refl, all-zero), refl, refl)

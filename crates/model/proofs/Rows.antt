@@ -1,7 +1,6 @@
 -- The rows of the table of worked jobs (`Answers`): calls, what they give, and the proof that they do. Assumes nothing.
 use mathlib.Core.Path.{_≡_}
 use mathlib.Core.List.{List, [], _∷_, _++_, map}
-use mathlib.Core.Option.{Option, none, some}
 use Prim.Native.Nat.{ℕ, zero, suc, _/_, _%_, _^_}
 use Prim.Native.String.{String}
 use lib.ListN.{length, replicate}
@@ -11,7 +10,6 @@ use Rattle.model.specs.Ticket.{ticketOf}
 use Rattle.model.specs.Text.{text}
 use Rattle.model.specs.Page.{ended}
 use Rattle.model.specs.Calls.{jobUpTo, referencesOf, Counts, Which, Mark, Planned, planAnswer, pageAnswer, checkAnswer, ChosenSheet, chooseAnswer, countsNumbers, planningNumbers, choiceNumbers, countsWritten}
-use Rattle.model.specs.Slots.{SlotsFound, slotsAnswer}
 
 -- The k bytes whose hexadecimal digits are those of v: `hex 2 0x0018` is 00 18.
 unfoldable pub hex : ℕ → ℕ → List ℕ
@@ -19,8 +17,8 @@ hex zero v = []
 hex (suc k) v = (v / 256 ^ k % 256) ∷ hex k v
 
 -- A call, and what a call gives. `planInto` plans a ticket into two buffers of the lengths that it is given, `plan` into two of the longest sheet's
--- 40,962 bytes; `page` plans it with a third buffer, and shows the page. `least` is for a disk, wanted rounds and a buffer. A call from C, whose last
--- bytes are a slice for its counts, gives what the slice then has. Each is made with a stop (L5).
+-- 40,962 bytes; `page` plans it with a third buffer, and shows the page. A call from C, whose last bytes are a slice for its counts, gives what the
+-- slice then has. Each is made with a stop (L5).
 pub data Call : Type 0 where
   read : List ℕ → Call
   plan : List ℕ → Call
@@ -28,7 +26,6 @@ pub data Call : Type 0 where
   page : List ℕ → ℕ → ℕ → ℕ → Call
   check : List ℕ → List ℕ → Call
   choose : List ℕ → List ℕ → List ℕ → Call
-  least : List ℕ → ℕ → ℕ → ℕ → Call
   planFromC : List ℕ → List ℕ → Call
   checkFromC : List ℕ → List ℕ → List ℕ → Call
   chooseFromC : List ℕ → List ℕ → List ℕ → List ℕ → Call
@@ -39,8 +36,6 @@ pub data Outcome : Type 0 where
   shows : List ℕ → Outcome
   passes : Counts → Outcome
   hands : ChosenSheet → Outcome
-  finds : SlotsFound → Outcome
-  findsNone : Outcome
   writes : List ℕ → Outcome
   number : ℕ → Outcome
 
@@ -48,19 +43,14 @@ unfoldable pub outcomeOf : {A : Type 0} → (A → Outcome) → Answer A → Out
 outcomeOf f (given a) = f a
 outcomeOf f (refused n) = number n
 
-unfoldable pub slotsOutcome : Option SlotsFound → Outcome
-slotsOutcome none = findsNone
-slotsOutcome (some f) = finds f
-
 unfoldable pub outcome : ℕ → Call → Outcome
-unfolding outcomeOf slotsOutcome jobUpTo planAnswer pageAnswer checkAnswer chooseAnswer slotsAnswer countsWritten
+unfolding outcomeOf jobUpTo planAnswer pageAnswer checkAnswer chooseAnswer countsWritten
 outcome stop (read t) = outcomeOf job (jobUpTo t stop)
 outcome stop (plan t) = outcomeOf plans (planAnswer t stop 40962 40962)
 outcome stop (planInto t room₁ room₂) = outcomeOf plans (planAnswer t stop room₁ room₂)
 outcome stop (page t room₁ room₂ room₃) = outcomeOf (λ p. shows (p .page)) (pageAnswer t stop room₁ room₂ room₃)
 outcome stop (check t s) = outcomeOf passes (checkAnswer t stop s)
 outcome stop (choose t first second) = outcomeOf hands (chooseAnswer t stop first second)
-outcome stop (least t d wanted room) = outcomeOf slotsOutcome (slotsAnswer t stop d wanted room)
 outcome stop (planFromC t lent) = writes (countsWritten planningNumbers (planAnswer t stop 40962 40962) lent)
 outcome stop (checkFromC t s lent) = writes (countsWritten countsNumbers (checkAnswer t stop s) lent)
 outcome stop (chooseFromC t first second lent) = writes (countsWritten choiceNumbers (chooseAnswer t stop first second) lent)
@@ -82,7 +72,6 @@ ticketIn (planInto t room₁ room₂) = t
 ticketIn (page t room₁ room₂ room₃) = t
 ticketIn (check t s) = t
 ticketIn (choose t first second) = t
-ticketIn (least t d wanted room) = t
 ticketIn (planFromC t lent) = t
 ticketIn (checkFromC t s lent) = t
 ticketIn (chooseFromC t first second lent) = t
@@ -110,7 +99,3 @@ pageWith lines = shows (ended (map text (lines ++ "E empty slot    " ∷ "M min-
 
 abbrev pub chose : Which → ℕ → Outcome
 chose w n = hands (record { which = w; sheetLength = n })
-
--- a slot count, with the counts and the sheet of the short plan for it
-abbrev pub found : ℕ → Counts → List ℕ → Outcome
-found s c sheet = finds (record { slots = s; counts = c; sheet = sheet })

@@ -8,4 +8,3 @@ pub mod Page
 pub mod Sheet
 pub mod Valid
 pub mod Calls
-pub mod Slots

@@ -2,21 +2,21 @@
 use mathlib.Core.Path.{_≡_, refl, sym, ap, _∙_, subst}
 use mathlib.Core.Logic.{_≢_}
 use mathlib.Core.Bool.{Bool, true, false, _&&_}
-use mathlib.Core.List.{List, []}
+use mathlib.Core.List.{List}
 use Prim.Native.Nat.{ℕ, zero, suc, _+_, _≤_, _<_}
 use native.Mathlib.Omega.{arith}
 use lib.Dec.{ltb, eqb, leb}
 use lib.ListN.{length, getD, set, length-set}
-use lib.Seq.{getD-set-same, getD-set-other, ext-getD}
+use lib.Seq.{getD-set-other}
 use borrow.Author.Tests.{ltb-true, ltb-false, eqb-true, eqb-false, leb-true, leb-false}
 use Rattle.bits.proofs.Logic.{by-test, clash, and-left, and-right}
-use Rattle.lookup.specs.Lookup.{agains, refDisks, chainFrom}
-use Rattle.lookup.proofs.Laws.{agains-at, refDisks-length, refDisks-at, chain-from, chain-to, chain-hit, chain-least, chain-next, chain-pass}
+use Rattle.lookup.specs.Lookup.{chainFrom}
+use Rattle.lookup.proofs.Laws.{chain-from, chain-to, chain-hit, chain-least, chain-pass}
 use Rattle.model.specs.Job.{Job, Sound, blockCount, refCount, diskOf, refAt}
 use Rattle.model.specs.Playing.{isResident}
 use Rattle.model.specs.Rules.{distance}
 use Rattle.model.proofs.Distances.{distance-hit}
-use Rattle.lookup.specs.Desk.{row, laters, looks, ofBlock, ofDisk, stepped}
+use Rattle.lookup.specs.Desk.{row, laters, looks, ofBlock, ofDisk}
 use Rattle.lookup.proofs.Rows.{row-other, row-same}
 use Rattle.moving.specs.Moving.{Ahead, moveFrom, movedOn}
 use Rattle.lookup.proofs.Right.{Pointer, Forward}
@@ -174,34 +174,3 @@ forward-ahead {j} {steps} forward i l =
     let next = chain-from (j .blockDisks) (j .refs) (suc i) (diskOf j (refAt j i)) in
     let to = chain-to (j .blockDisks) (j .refs) (suc i) (diskOf j (refAt j i)) l in
     (omega (arith, e, next), omega (arith, e, to))
-
--- the disks of a job's references, where a longer list has the disks of its blocks
-refDisks-same : (j : Job) (disks : List ℕ) → ((i : ℕ) → i < refCount j → getD disks (refAt j i) 0 ≡ diskOf j (refAt j i))
-    → refDisks disks (j .refs) ≡ refDisks (j .blockDisks) (j .refs)
-refDisks-same j disks same =
-    let l = refDisks-length disks (j .refs) in
-    let r = refDisks-length (j .blockDisks) (j .refs) in
-    ext-getD 0 (refDisks disks (j .refs)) (refDisks (j .blockDisks) (j .refs)) (l ∙ sym r) λ i p.
-    let small : i < refCount j = omega (arith, l) in
-    refDisks-at disks (j .refs) i small ∙ same i small ∙ sym (refDisks-at (j .blockDisks) (j .refs) i small)
-
--- the steps that `open` makes
-module _ (j : Job) (disks : List ℕ) (steps : List (List ℕ)) (rows : length steps ≡ 2) where
-  pub block-steps : ofBlock (stepped disks (j .refs) steps) ≡ agains (j .refs) (ofBlock steps)
-  unfolding stepped
-  block-steps =
-      getD-set-other (set steps 0 (agains (j .refs) (ofBlock steps))) 1 0 _ [] (λ e. omega (arith, e))
-      ∙ getD-set-same steps 0 (agains (j .refs) (ofBlock steps)) [] (omega (arith, rows))
-
-  pub disk-steps : ofDisk (stepped disks (j .refs) steps) ≡ agains (refDisks disks (j .refs)) (ofDisk steps)
-  unfolding stepped
-  disk-steps = getD-set-same (set steps 0 (agains (j .refs) (ofBlock steps))) 1 _ []
-      (let e = length-set steps 0 (agains (j .refs) (ofBlock steps)) in omega (arith, rows, e))
-
-  pub forward-made : ((i : ℕ) → i < refCount j → getD disks (refAt j i) 0 ≡ diskOf j (refAt j i))
-      → refCount j ≤ length (ofBlock steps) → refCount j ≤ length (ofDisk steps) → Forward j (stepped disks (j .refs) steps)
-  forward-made same l r = record {
-    blocks = λ i p. ap (λ (t : List ℕ). getD t i 0) block-steps ∙ agains-at (j .refs) (ofBlock steps) i p (omega arith);
-    disks = λ i p. ap (λ (t : List ℕ). getD t i 0) disk-steps ∙ ap (λ (ds : List ℕ). getD (agains ds (ofDisk steps)) i 0) (refDisks-same j disks same)
-        ∙ chain-next (j .blockDisks) (j .refs) (ofDisk steps) i p (omega arith);
-  }

@@ -9,7 +9,7 @@ use lib.Dec.{leb}
 use borrow.Author.Tests.{leb-true, leb-false}
 use Rattle.bits.proofs.Logic.{by-test}
 use lib.Seq.{take-at, drop-at, take-add, length-take-le, drop-drop}
-use Rattle.building.specs.Building.{capped}
+use Rattle.mixing.specs.Room.{capped}
 
 -- A line of which the first a entries are those of l₀, and then come the references.
 abbrev pub Ends : ℕ → List ℕ → List ℕ → List ℕ → Type 0

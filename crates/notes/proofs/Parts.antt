@@ -19,11 +19,12 @@ use Rattle.grammar.proofs.Counts.{part-count-is}
 use Rattle.pieces.specs.Pieces.{beginsWith, firstDigit, digitsFrom, countAt}
 use Rattle.pieces.proofs.Laws.{char-at, drop-past, begins-within, digits-place, digits-some, count-none, count-number, count-wrong}
 use Rattle.pieces.specs.declared.Counted.{Counted}
-use Rattle.building.specs.declared.Place.{Place}
+use Rattle.mixing.specs.declared.Place.{Place}
+use Rattle.mixing.specs.Room.{capped}
 use Rattle.building.specs.declared.Piece.{Piece}
-use Rattle.building.specs.Building.{capped, refusedPiece, numberAt, blockAt, blockLaid, closedAt, countedAt, countedLine}
+use Rattle.building.specs.Building.{refusedPiece, numberAt, blockAt, blockLaid, closedAt, countedAt, countedLine}
 use Rattle.notes.specs.Readers.{Built, Ended, ItemGot, ItemRefused, ItemRead, NoteGot, NoteRefused, NoteRead}
-use Rattle.building.proofs.Leaves.{counted-refused, counted-wrong, counted-times, line-times}
+use Rattle.building.proofs.Laws.{counted-refused, counted-wrong, counted-times, line-times}
 use Rattle.notes.proofs.Lines.{ends-front, ends-refs, ends-laid, cap-few, cap-times}
 use Rattle.grammar.proofs.Scan.{scan-on, scan-stuck, scan-deep}
 use Rattle.notes.proofs.Scanning.{opens, closes, begins-block, begins-none, stars, counts, drop-tail, digits-scan, digits-stops, block-grows, count-grows, block-ended, inside-ended, times-ended}

@@ -12,12 +12,14 @@ use Rattle.grammar.specs.Reading.{Before, nothing, sideWith, mixedWith, noteWit
 use Rattle.grammar.proofs.Counts.{item-count-is, side-count-is, note-count-is}
 use Rattle.pieces.specs.Pieces.{beginsWith}
 use Rattle.pieces.specs.declared.Joint.{Joint}
-use Rattle.building.specs.declared.Place.{Place}
+use Rattle.mixing.specs.declared.Place.{Place}
+use Rattle.mixing.specs.Room.{capped}
 use Rattle.building.specs.declared.Piece.{Piece}
-use Rattle.building.specs.declared.Sides.{Sides}
-use Rattle.building.specs.Building.{capped, refusedPiece, sidesAfter, sideMixed, takenBack}
+use Rattle.building.specs.Building.{refusedPiece}
+use Rattle.sides.specs.declared.Sides.{Sides}
+use Rattle.sides.specs.Sides.{sidesAfter, sideMixed, takenBack}
 use Rattle.notes.specs.Readers.{ItemGot, ItemRefused, NoteGot, NoteRefused}
-use Rattle.building.proofs.Leaves.{side-begun, side-fits, back-fits}
+use Rattle.sides.proofs.Laws.{side-begun, side-fits, back-fits}
 use Rattle.notes.proofs.Lines.{Ends, ends-front, ends-refs, ends-more, ends-laid, Holds, holds-refs, holds-rest, holds-laid, cap-few}
 use Rattle.notes.proofs.Joints.{withItem, withSide, Follows, itemNext, sideNext, endNext, wrongNext}
 

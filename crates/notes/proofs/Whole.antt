@@ -15,13 +15,13 @@ use Rattle.bits.specs.Reading.{Answer, given, refused}
 use Rattle.bits.proofs.Logic.{by-test, clash, or-false-left, or-false-right}
 use Rattle.model.specs.Calls.{among}
 use Rattle.grammar.specs.Note.{Item, Note, noteRefs, noteCount}
-use Rattle.grammar.specs.Reading.{Before, nothing, noteWith, read, state, start, afterIn, after, closed, whole, stuck, scan, withRoom, noteAnswer}
+use Rattle.grammar.specs.Reading.{Before, noteWith, read, state, start, afterIn, after, closed, whole, stuck, scan, withRoom, noteAnswer}
 use Rattle.grammar.specs.Places.{noteRefusals}
 use Rattle.grammar.proofs.Counts.{note-count-is}
 use Rattle.grammar.proofs.Promises.{reads-exactly, one-reading, malformed, too-deep, too-many, note-numbers}
 use Rattle.pieces.specs.Pieces.{beginsWith}
 use Rattle.pieces.proofs.Laws.{drop-past, begins-within}
-use Rattle.building.specs.declared.Place.{Place}
+use Rattle.mixing.specs.declared.Place.{Place}
 use Rattle.building.specs.declared.Piece.{Piece}
 use Rattle.notes.specs.Readers.{NoteGot, NoteRefused, NoteRead}
 use Rattle.notes.specs.Notes.{numberOf, passesAs, refsAfter, Exact}

@@ -12,9 +12,9 @@ use lib.ListN.{length, take, drop}
 use Rattle.grammar.specs.Note.{Item, itemRefs, itemCount, noteRefs, noteCount}
 use Rattle.grammar.specs.Reading.{Before, nothing, noteWith, begin, read, state, longer, starred, grown, stuck, scan}
 use Rattle.pieces.specs.Pieces.{beginsWith}
-use Rattle.building.specs.declared.Place.{Place}
+use Rattle.mixing.specs.declared.Place.{Place}
+use Rattle.mixing.specs.Room.{capped}
 use Rattle.building.specs.declared.Piece.{Piece}
-use Rattle.building.specs.Building.{capped}
 
 -- The line and the left after a piece has been built.
 pub record Built (from : Place) (refs line₀ left₀ line left : List ℕ) : Type 0 where

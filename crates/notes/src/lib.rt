@@ -1,12 +1,12 @@
 // A note of passes made into the reference string. Document 02, L6: "The string is exactly the meaning of the note, and a note has one reading. It
 // goes into a lent slice of 16-bit numbers, one for each reference, and its count is returned; entries past it stay."
 use building::Piece;
-use building::Place;
-use building::Sides;
+use mixing::Place;
+use sides::Sides;
 ghost use mathlib.Core.Path.{_≡_};
 ghost use lib.ListN.{length};
 ghost use Rattle.grammar.specs.Reading.{noteAnswer};
-ghost use Rattle.building.specs.Building.{Ready};
+ghost use Rattle.sides.specs.Sides.{Ready};
 ghost use Rattle.notes.specs.Readers.{ItemRead, NoteRead};
 ghost use Rattle.notes.specs.Notes.{numberOf, passesAs, refsAfter, Exact};
 
@@ -53,8 +53,8 @@ fn read_note(text: &[u8], from: Place, line: &mut [u16], left: &mut [u16]) -> Pi
         let next = Place {
             at,
             depth: from.depth,
-            line: building::cap(from.line + side),
-            left: building::cap(from.left + mixed),
+            line: mixing::cap(from.line + side),
+            left: mixing::cap(from.left + mixed),
         };
         let item = read_item(text, next, line, left);
         if item.number != 0 {
@@ -65,16 +65,16 @@ fn read_note(text: &[u8], from: Place, line: &mut [u16], left: &mut [u16]) -> Pi
             return building::refused_at(joint.number, joint.at);
         }
         let sides = Sides {
-            side: building::cap(side + item.count),
+            side: mixing::cap(side + item.count),
             mixed,
         };
-        let so_far = building::mix_side(line, left, from, sides, joint.complete);
+        let so_far = sides::mix_side(line, left, from, sides, joint.complete);
         if joint.more {
             at = joint.at;
             side = so_far.side;
             mixed = so_far.mixed;
         } else {
-            building::take_back(line, left, from, so_far.mixed);
+            sides::take_back(line, left, from, so_far.mixed);
             return building::read_to(joint.at, so_far.mixed);
         }
     }

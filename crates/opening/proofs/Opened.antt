@@ -15,11 +15,13 @@ use Rattle.model.specs.Playing.{start, isResident, load}
 use Rattle.model.specs.Rules.{distance}
 use Rattle.model.proofs.Carried.{rising-up, sound-rising, start-load, start-holds, start-found, start-within, start-read}
 use Rattle.model.proofs.Distances.{distance-from}
-use Rattle.lookup.specs.Lookup.{firsts, refDisks, chainFrom}
-use Rattle.lookup.specs.Desk.{HELD, row, nexts, laters, helds, looks, ofDisk, opened}
-use Rattle.lookup.proofs.Laws.{firsts-length, firsts-at, chain-to, chain-hit, chain-head, chain-distance}
+use Rattle.lookup.specs.Lookup.{refDisks, chainFrom}
+use Rattle.lookup.specs.Desk.{HELD, row, nexts, laters, helds, looks, ofDisk}
+use Rattle.lookup.proofs.Laws.{chain-to, chain-hit, chain-distance}
 use Rattle.lookup.proofs.Right.{Listed, Pointer, Right, Forward}
 use Rattle.lookup.proofs.StaysRight.{pointer-kept, reading, right-read}
+use Rattle.indexing.specs.Indexing.{firsts, opened}
+use Rattle.indexing.proofs.Laws.{firsts-length, firsts-at, chain-head}
 use Rattle.moving.specs.Moving.{Ahead, moveFrom, movedOn}
 use Rattle.moving.proofs.PointerRight.{Moved, moved-row, moved-laters, moved-looks, moved-rows, moved-moved, moved-stops, forward-ahead}
 use Rattle.opening.specs.Opening.{movedAll, passedAll, carriedDesk, noDesk}

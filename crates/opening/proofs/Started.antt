@@ -14,15 +14,18 @@ use Rattle.model.specs.Playing.{start}
 use Rattle.model.proofs.Plans.{getD-each}
 use Rattle.model.proofs.Carried.{start-within}
 use Rattle.model.proofs.Distances.{distance-to}
-use Rattle.lookup.specs.Lookup.{firsts, refDisks}
-use Rattle.lookup.specs.Desk.{helds, looks, ofDisk, opened, stepped}
-use Rattle.lookup.proofs.Laws.{firsts-length, firsts-at, refDisks-length}
+use Rattle.lookup.specs.Lookup.{refDisks}
+use Rattle.lookup.specs.Desk.{helds, looks, ofDisk}
+use Rattle.lookup.proofs.Laws.{refDisks-length}
 use Rattle.lookup.proofs.Right.{Right, Forward}
+use Rattle.indexing.specs.Indexing.{firsts, opened, stepped}
+use Rattle.indexing.proofs.Laws.{firsts-length, firsts-at}
+use Rattle.indexing.proofs.Opened.{forward-made}
 use Rattle.playing.specs.Playing.{startBuffers}
 use Rattle.playing.specs.declared.Buffers.{Buffers}
 use Rattle.playing.proofs.Started.{holds-start}
 use Rattle.moving.specs.Moving.{Ahead}
-use Rattle.moving.proofs.PointerRight.{forward-ahead, forward-made}
+use Rattle.moving.proofs.PointerRight.{forward-ahead}
 use Rattle.opening.specs.Opening.{carriedDesk, noDesk, noSteps, startSteps, startDesk}
 use Rattle.opening.proofs.Sizes.{Sized, carried-sized, helds-carried}
 use Rattle.opening.proofs.Opened.{right-start}

@@ -4,7 +4,8 @@ use mathlib.Core.List.{List}
 use Prim.Native.Nat.{ℕ, zero, suc}
 use lib.ListN.{getD, set, take, replicate}
 use Rattle.job.specs.declared.Job.{Job as Stored}
-use Rattle.lookup.specs.Desk.{NEXT, HELD, withCell, ofBlock, opened, stepped}
+use Rattle.lookup.specs.Desk.{NEXT, HELD, withCell, ofBlock}
+use Rattle.indexing.specs.Indexing.{opened, stepped}
 use Rattle.moving.specs.Moving.{movedOn}
 use Rattle.playing.specs.Playing.{startBuffers}
 use Rattle.playing.specs.declared.Buffers.{Buffers}

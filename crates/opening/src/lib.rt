@@ -45,7 +45,7 @@ fn carry(b: Buffers, blocks: &Row, disks: usize, refs: &[u16], steps: &Steps, de
     requires { ⌜ (length (now refs) ≤ 2048) × Below 512 (now refs) × Ahead (length (now refs)) (ofDisk (now steps)) ⌝ }
     ensures { λ _. ⌜ now (desk .exit) ≡ carriedDesk b (now (blocks .entry)) disks (now (refs .entry)) (now (steps .entry)) (now (desk .entry)) ⌝ }
 {
-    lookup::put_residents(desk, blocks);
+    indexing::put_residents(desk, blocks);
     move_all(disks, refs, &b.resident, steps, desk);
     pass_all(b.next, refs, steps, desk);
 }
@@ -63,7 +63,7 @@ pub fn open(job: Job, desk: &mut Desk, steps: &mut Steps) -> Buffers
     let blocks = job.carried;
     let b = Buffers::carrying(disks, held, &blocks).read_on(&all, n);
     let refs = &all[..n];
-    lookup::open(refs, &disk, desk, steps);
+    indexing::open(refs, &disk, desk, steps);
     carry(b, &blocks, disks, refs, steps, desk);
     b
 }

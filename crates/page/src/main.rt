@@ -12,11 +12,11 @@ fn buffer() -> [u8; 278613]
 }
 
 // A longer input is cut to 3,091 bytes, one more than the longest ticket, as in `plan`; what is printed is what the whole input gives (`cut-page` of
-// `report`).
+// `page_text`).
 fn main() {
     let mut ticket = [0u8; 3091];
     let n = io::read_full(STDIN_FILENO, &mut ticket);
     let mut text = buffer();
-    let m = report::page(&ticket[..n], &mut text);
+    let m = page_text::page(&ticket[..n], &mut text);
     io::write_all(STDOUT_FILENO, &text[..m]);
 }

@@ -11,8 +11,9 @@ use Rattle.model.specs.Calls.{isFirst, isSecond, ofTwo, handed, shortAfter, spa
 use Rattle.model.specs.Calls.{Which as WhichGiven}
 use Rattle.model.specs.Calls.{Planned as PlanGiven}
 use Rattle.model.specs.Calls.{PlannedPage as PageGiven}
-use Rattle.model.specs.Slots.{SlotsFound, slotsAfter, returnedSlots, slotsPart}
-use Rattle.model.proofs.Promises.{part-handed, plan-refused, page-exactly, sheet-handed, choose-refused, slots-written, none-written, slots-refused}
+use Rattle.slot_counts.specs.Slots.{SlotsFound, slotsAfter, returnedSlots, slotsPart}
+use Rattle.model.proofs.Promises.{part-handed, plan-refused, page-exactly, sheet-handed, choose-refused}
+use Rattle.slot_counts.proofs.Promises.{slots-written, none-written, slots-refused}
 use Rattle.returning.specs.Returning.{plannedAs, whichAs, whichGiven, chosenAs, leastAs}
 use Rattle.planner.specs.Planner.{planInto, pageInto, slotsInto}
 

@@ -4,8 +4,6 @@ use mathlib.Core.List.{List}
 use Prim.Native.Nat.{ℕ, _≤_}
 use native.Mathlib.Omega.{arith}
 use lib.ListN.{replicate}
-use mir.Val.{Fits as Machine}
-use mir.Syntax.{w32}
 use Rattle.bits.specs.Reading.{Answer, given, refused}
 use Rattle.job.specs.Meaning.{jobOf, counting, Fits}
 use Rattle.model.specs.Job.{Job}
@@ -20,31 +18,25 @@ use Rattle.ticket.specs.declared.Ticket.{Ticket}
 use Rattle.ticket.proofs.Laws.{readNumber, read-given, read-refused, read-fits}
 use Rattle.checking.specs.Checking.{checkedOf}
 use Rattle.checking.specs.declared.Checked.{Checked}
+use Rattle.counts.proofs.Written.{Checks}
 use Rattle.planner.specs.Planner.{Unbeaten, Exact}
 
--- A call gives something where its number is 0, since no refusal has the number 0. Each number is small.
+-- A call gives something where its number is 0, since no refusal has the number 0.
 module _ {A : Type 0} (a : Answer A) (few : (n : ℕ) → a ≡ refused n → (1 ≤ n) × (n ≤ 26)) (number : ℕ) (e : number ≡ numberOf a) where
-  pub given-by : number ≡ 0 → (v : A) × (a ≡ given v)
+  given-by : number ≡ 0 → (v : A) × (a ≡ given v)
   given-by z = go a refl e
     where
       go : (x : Answer A) → a ≡ x → number ≡ numberOf x → (v : A) × (a ≡ given v)
       go (given v) q h = (v, q)
       go (refused n) q h = let b = few n q .0 in absurd (omega (arith, b, h, z))
 
-  pub number-small : Machine w32 number
-  number-small = go a refl e
-    where
-      go : (x : Answer A) → a ≡ x → number ≡ numberOf x → Machine w32 number
-      go (given v) q h = omega (arith, h)
-      go (refused n) q h = let b = few n q .1 in omega (arith, b, h)
-
--- The number of what the check returns is the answer's.
-pub check-is : (t : List ℕ) (stop : ℕ) (s : List ℕ) (r : Checked) → r ≡ checkedOf (checkAnswer t stop s) → r .number ≡ numberOf (checkAnswer t stop s)
+-- The number, the rounds and the fetches of what the check returns are the answer's.
+pub check-values : (t : List ℕ) (stop : ℕ) (s : List ℕ) (r : Checked) → r ≡ checkedOf (checkAnswer t stop s) → Checks t stop s (r .number) (r .rounds) (r .fetches)
 unfolding checkedOf
-check-is t stop s r e = ap (λ (x : Checked). x .number) e
+check-values t stop s r e = rw e (refl, refl, refl)
 
 pub check-passing : (t : List ℕ) (stop : ℕ) (s : List ℕ) (r : Checked) → r ≡ checkedOf (checkAnswer t stop s) → r .number ≡ 0 → (c : Counts) × (checkAnswer t stop s ≡ given c)
-check-passing t stop s r e z = given-by (checkAnswer t stop s) (check-within t stop s) (r .number) (check-is t stop s r e) z
+check-passing t stop s r e z = given-by (checkAnswer t stop s) (check-within t stop s) (r .number) (check-values t stop s r e .0) z
 
 -- Demands 2 and 3 hold of it.
 check-valid : (t : List ℕ) (stop : ℕ) (s : List ℕ) (j : Job) (schedule : Schedule) → jobUpTo t stop ≡ given j → ValidSheet j s schedule → checkedOf (checkAnswer t stop s) ≡ checkedOf (given (countsOf j schedule))

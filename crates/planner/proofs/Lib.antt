@@ -2,5 +2,4 @@ pub mod Joined
 pub mod Laws
 mod Promised
 mod TwoSheets
-mod Exports
 mod Slots

@@ -15,7 +15,7 @@ use Rattle.returning.specs.Returning.{plannedAs, plannedPageAs}
 use Rattle.returning.specs.declared.Planned.{Planned}
 use Rattle.returning.specs.declared.PlannedPage.{PlannedPage}
 use Rattle.handing.proofs.Rooms.{Gives}
-use Rattle.handing.proofs.Pages.{GivesPage}
+use Rattle.page_planning.proofs.Pages.{GivesPage}
 use Rattle.planner.specs.Planner.{Promised}
 
 -- Demands 2 and 3, and the bound of L8, hold of what planning gives.

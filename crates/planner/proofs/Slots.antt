@@ -8,8 +8,8 @@ use borrow.Author.Tests.{le-leb, lt-leb}
 use Rattle.bits.specs.Reading.{Answer, given, refused}
 use Rattle.model.specs.Job.{Job, diskCount}
 use Rattle.model.specs.Calls.{jobUpTo, written}
-use Rattle.model.specs.Slots.{leastSlots, SlotsFound, withSheet, slotsFor, slotsAnswer, slotsAfter, returnedSlots}
-use Rattle.model.proofs.Promises.{slots-none, slots-given}
+use Rattle.slot_counts.specs.Slots.{leastSlots, SlotsFound, withSheet, slotsFor, slotsAnswer, slotsAfter, returnedSlots}
+use Rattle.slot_counts.proofs.Promises.{slots-none, slots-given}
 use Rattle.returning.specs.Returning.{leastAs}
 use Rattle.returning.specs.declared.LeastSlots.{LeastSlots}
 use Rattle.planner.specs.Planner.{LeastGiven}

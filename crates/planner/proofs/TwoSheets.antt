@@ -15,7 +15,7 @@ use Rattle.checking.specs.declared.Checked.{Checked}
 use Rattle.returning.specs.Returning.{whichAs, chosenAs, preferenceOf}
 use Rattle.returning.specs.declared.Chosen.{Chosen}
 use Rattle.planner.specs.Planner.{Preferred}
-use Rattle.planner.proofs.Laws.{check-is, check-passing}
+use Rattle.planner.proofs.Laws.{check-values, check-passing}
 
 -- the other sheet takes no fewer rounds than the one handed back
 no-fewer : (a b : Counts) (w : Which) → ofTwo w a b .rounds ≤ a .rounds → ofTwo w a b .rounds ≤ b .rounds → ofTwo w a b .rounds ≤ ofTwo w b a .rounds
@@ -57,14 +57,14 @@ module _ (t : List ℕ) (stop : ℕ) (first second : List ℕ) where
   module _ (a : Checked) (is-first : a ≡ checkedOf (checkAnswer t stop first)) where
     -- where the check of the first sheet is,
     pub first-stops : (r : Chosen) → (a .number ≡ 0 → ⊥) → r ≡ chosenAs (returnedChoice (refused (a .number))) → Chooses r
-    first-stops r f = stops r (a .number) (first-refused t stop first second (a .number) (refused-by (checkAnswer t stop first) (a .number) (check-is t stop first a is-first) f))
+    first-stops r f = stops r (a .number) (first-refused t stop first second (a .number) (refused-by (checkAnswer t stop first) (a .number) (check-values t stop first a is-first .0) f))
 
     module _ (z : a .number ≡ 0) (b : Checked) (is-second : b ≡ checkedOf (checkAnswer t stop second)) where
       -- and, where that passes, where the check of the second is;
       pub second-stops : (r : Chosen) → (b .number ≡ 0 → ⊥) → r ≡ chosenAs (returnedChoice (refused (b .number))) → Chooses r
       second-stops r f =
           let p = check-passing t stop first a is-first z in
-          stops r (b .number) (second-refused t stop first second (p .0) (b .number) (p .1) (refused-by (checkAnswer t stop second) (b .number) (check-is t stop second b is-second) f))
+          stops r (b .number) (second-refused t stop first second (p .0) (b .number) (p .1) (refused-by (checkAnswer t stop second) (b .number) (check-values t stop second b is-second .0) f))
 
       -- where both pass, their rounds decide.
       pub both-chosen : (r : Chosen) → b .number ≡ 0 → r ≡ preferenceOf (a .rounds) (length first) (b .rounds) (length second) → Chooses r

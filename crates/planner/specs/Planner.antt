@@ -11,7 +11,7 @@ use Rattle.model.specs.Ticket.{ticketOf}
 use Rattle.model.specs.Playing.{Schedule}
 use Rattle.model.specs.Valid.{ValidSheet}
 use Rattle.model.specs.Calls.{jobUpTo, Counts, countsOf, fetchesOn, shortCounts, sparingCounts, SparingWithin, ofTwo, isSparing, handedCounts, Planned, planAnswer, PlannedPage, pageAnswer, checkAnswer, ChosenSheet}
-use Rattle.model.specs.Slots.{ticketWith, Least, NoneEnough, SlotsFound, slotsAnswer}
+use Rattle.slot_counts.specs.Slots.{ticketWith, Least, NoneEnough, SlotsFound, slotsAnswer}
 use Rattle.checking.specs.Checking.{checkedOf}
 use Rattle.checking.specs.declared.Checked.{Checked}
 

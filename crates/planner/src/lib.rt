@@ -11,7 +11,7 @@ use returning::PlannedPage;
 ghost use mathlib.Core.Path.{_≡_};
 ghost use lib.ListN.{take};
 ghost use Rattle.model.specs.Calls.{markFor, chosen, shortAfter, sparingAfter, returned, partOf, planGiven, pageLength, pageAfter, checkAnswer, chooseAnswer, returnedChoice, sheetHanded, countsWritten, countsNumbers, planningNumbers, choiceNumbers, numberOf};
-ghost use Rattle.model.specs.Slots.{slotsAfter, returnedSlots};
+ghost use Rattle.slot_counts.specs.Slots.{slotsAfter, returnedSlots};
 ghost use Rattle.checking.specs.Checking.{checkedOf};
 ghost use Rattle.returning.specs.Returning.{plannedAs, chosenAs, leastAs, whichGiven, whichBegins};
 ghost use Rattle.planner.specs.Planner.{planInto, pageInto, slotsInto, Unbeaten, Exact, Promised, Preferred, LeastGiven};
@@ -69,7 +69,7 @@ pub fn plan_with_page(
         return returning::page_refusal(number);
     }
     read.job.count = stop;
-    handing::page_job(read.job, short, sparing, page)
+    page_planning::page_job(read.job, short, sparing, page)
 }
 
 // The check: a ticket, a stop and a sheet. What it returns, and what is promised.
@@ -171,12 +171,8 @@ pub extern "C" fn planner_check(ticket: &[u8], stop: usize, sheet: &[u8], counts
         × Unbeaten (now (ticket .entry)) stop (checkedOf a)) ⌝ }
 {
     let c = check(ticket, stop, sheet);
-    if c.number != 0 {
-        return c.number as u32;
-    }
     let fetches = c.fetches;
-    returning::lay_counts(counts, 0, c.rounds, fetches);
-    0
+    counts::lay_checked(counts, c.number, c.rounds, fetches)
 }
 
 // Planning, from C: its number; in `counts`, as far as that reaches, the mark (0 short, 1 sparing), the length of the part, and the rounds and eight
@@ -197,19 +193,7 @@ pub extern "C" fn planner_plan(
         × Promised (now (ticket .entry)) stop a) ⌝ }
 {
     let p = plan(ticket, stop, short, sparing);
-    if p.number != 0 {
-        return p.number as u32;
-    }
-    let mark = p.mark;
-    let a = p.short;
-    let b = p.sparing;
-    let f = a.fetches;
-    let g = b.fetches;
-    bits::lay16(counts, 0, returning::mark_number(mark));
-    bits::lay16(counts, 1, p.length);
-    returning::lay_counts(counts, 2, a.rounds, f);
-    returning::lay_counts(counts, 11, b.rounds, g);
-    0
+    counts::lay_planned(counts, p)
 }
 
 // The choice, from C: its number; in `counts`, as far as that reaches, which sheet is handed back (0 the first, 1 the second) and its length.
@@ -227,11 +211,5 @@ pub extern "C" fn planner_choose(
         × Preferred (now (ticket .entry)) stop (now (first .entry)) (now (second .entry)) a) ⌝ }
 {
     let c = choose(ticket, stop, first, second);
-    if c.number != 0 {
-        return c.number as u32;
-    }
-    let which = c.which;
-    bits::lay16(counts, 0, returning::of_which(which, 0, 1));
-    bits::lay16(counts, 1, c.length);
-    0
+    counts::lay_chosen(counts, c)
 }

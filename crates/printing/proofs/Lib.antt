@@ -1,5 +1,3 @@
-pub mod Laws
 pub mod Pages
 mod Legend
-mod Columns
 pub mod ReadBack

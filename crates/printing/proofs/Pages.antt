@@ -11,8 +11,9 @@ use Rattle.bits.specs.Fields.{fieldAt, laidAt}
 use Rattle.bits.proofs.Fields.{laid-then, laid-over, length-laid}
 use Rattle.bits.proofs.Logic.{by-test}
 use Rattle.model.specs.Page.{legend, ended}
-use Rattle.printing.specs.declared.Place.{Place}
-use Rattle.printing.specs.Printing.{lineBytes, valueOf, shownAt, placeAfter, lineAt, linesRead, pageRead, firstPlace}
+use Rattle.lines.specs.declared.Place.{Place}
+use Rattle.lines.specs.Lines.{lineBytes, valueOf, shownAt, placeAfter, lineAt}
+use Rattle.printing.specs.Printing.{linesRead, pageRead, firstPlace}
 
 -- a text written at the start of the part of a page from k on
 pub text-laid : (k n : ℕ) (text page : List ℕ) {part : List ℕ} → n ≡ length text → k + length text ≤ length page

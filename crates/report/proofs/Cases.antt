@@ -1,27 +1,21 @@
--- What `plan`, `page` and `slots` print: with the stop N, what the first two printed before there were stops. Document 01: "For F the program prints
--- exactly the lines below"; and G, short, and K's single byte 00, which both refuse with 2. Pages are rows of the table in `model`. Document 02, L10:
--- a count, none and a refusal. Assumes nothing.
+-- What `plan` prints: with the stop N, what it printed before there were stops. Document 01: "For F the program prints exactly the lines below"; and
+-- G, short, and K's single byte 00, which is refused with 2. Assumes nothing.
 use mathlib.Core.Path.{_≡_, refl, ap}
 use mathlib.Core.List.{List}
 use Prim.Native.Nat.{ℕ}
 use Rattle.bits.specs.Reading.{bind, _>>=_, _>>_, give, field, refuseIf, many, closing, answer, readAll}
 use Rattle.model.specs.Job.{upTo}
 use Rattle.model.specs.Ticket.{slotsField, diskField, refField, carriedBlocks, carriedField, carriedFields, ticketReader, ticketOf}
-use Rattle.model.specs.Calls.{stopAt, jobUpTo, plannedFor, pageFor}
+use Rattle.model.specs.Calls.{stopAt, jobUpTo, plannedFor}
 use Rattle.model.specs.Playing.{noneResident, load, play}
 use Rattle.model.proofs.Rows.{hex}
-use Rattle.model.proofs.Promises.{whole-plan, whole-page}
-use Rattle.model.specs.Slots.{withSheet}
-use Rattle.report.specs.Report.{linesOf, disksOf, printed, pageLines, pagePrinted, slotsPrinted}
+use Rattle.model.proofs.Promises.{whole-plan}
+use Rattle.report.specs.Report.{linesOf, disksOf, printed}
 
--- L5: "A stop equal to N is the old call": the plan, and the page, of all references of the ticket
+-- L5: "A stop equal to N is the old call": the plan of all references of the ticket
 pub printed-whole : (t : List ℕ) → printed t ≡ linesOf (disksOf (ticketOf t)) (plannedFor 40962 40962 (ticketOf t))
 unfolding printed
 printed-whole t = ap (linesOf (disksOf (ticketOf t))) (whole-plan t 40962 40962)
-
-pub page-whole : (room : ℕ) (t : List ℕ) → pagePrinted room t ≡ pageLines (pageFor 40962 40962 room (ticketOf t))
-unfolding pagePrinted
-page-whole room t = ap pageLines (whole-page t 40962 40962 room)
 
 -- sparing 4, 0 2, 1 3
 pub prints-F : printed (hex 17 0x2020805009200e020180002020200c0000) ≡ hex 18 0x73706172696e6720340a3020320a3120330a
@@ -42,22 +36,3 @@ prints-carried = refl
 pub prints-K : printed (hex 1 0x00) ≡ hex 10 0x7265667573656420320a
 unfolding printed hex _>>=_ _>>_ bind give field refuseIf many closing answer readAll stopAt upTo jobUpTo slotsField diskField refField carriedBlocks carriedField carriedFields ticketReader ticketOf
 prints-K = refl
-
-pub page-K : pagePrinted 278613 (hex 1 0x00) ≡ hex 10 0x7265667573656420320a
-unfolding pagePrinted hex _>>=_ _>>_ bind give field refuseIf many closing answer readAll stopAt upTo jobUpTo slotsField diskField refField carriedBlocks carriedField carriedFields ticketReader ticketOf
-page-K = refl
-
--- slots 4: G's disk 0, within 5 rounds
-pub prints-slots : slotsPrinted (hex 34 0x2060c080002490150000404040180002050301c04040281800010101006000080000) 0 5 ≡ hex 8 0x736c6f747320340a
-unfolding slotsPrinted hex _>>=_ _>>_ bind give field refuseIf many closing answer readAll stopAt upTo jobUpTo slotsField diskField refField carriedBlocks carriedField carriedFields ticketReader ticketOf play load noneResident withSheet
-prints-slots = refl
-
--- none: A within 0 rounds
-pub prints-none : slotsPrinted (hex 7 0x10200800100000) 0 0 ≡ hex 5 0x6e6f6e650a
-unfolding slotsPrinted hex _>>=_ _>>_ bind give field refuseIf many closing answer readAll stopAt upTo jobUpTo slotsField diskField refField carriedBlocks carriedField carriedFields ticketReader ticketOf play load noneResident withSheet
-prints-none = refl
-
--- refused 27: A has no disk 1
-pub prints-27 : slotsPrinted (hex 7 0x10200800100000) 1 0 ≡ hex 11 0x726566757365642032370a
-unfolding slotsPrinted hex _>>=_ _>>_ bind give field refuseIf many closing answer readAll stopAt upTo jobUpTo slotsField diskField refField carriedBlocks carriedField carriedFields ticketReader ticketOf play load noneResident withSheet
-prints-27 = refl

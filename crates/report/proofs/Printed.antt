@@ -49,17 +49,7 @@ few-disks t = go (ticketOf t) refl
     go (given j) e = ticket-sound t j e .fewDisks
     go (refused n) e = omega arith
 
--- and the references are N, the stop
-same-references : (a : Answer Job) → answerOf a .job .count ≡ referencesOf a
-unfolding answerOf noTicket stored
-same-references (given j) = refl
-same-references (refused n) = refl
-
 module _ (t : List ℕ) (read : Ticket) (e : read ≡ ticketRead t) where
-  pub references-are : read .job .count ≡ referencesOf (ticketOf t)
-  unfolding ticketRead
-  references-are = ap (λ (x : Ticket). x .job .count) e ∙ same-references (ticketOf t)
-
   disks-are : read .job .disks ≡ disksOf (ticketOf t)
   unfolding ticketRead
   disks-are = ap (λ (x : Ticket). x .job .disks) e ∙ same-disks (ticketOf t)

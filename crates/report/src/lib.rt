@@ -1,18 +1,15 @@
-// What the programs `plan`, `page` and `slots` print for a ticket. Document 01: "mark and rounds of the chosen plan, then each disk with its fetches
-// in that plan. A refusal prints `refused`, a space and the number. Every line ends in a line feed." Document 02, L2: the page; L5: the stop, which
-// "is N"; L10: the least slots.
+// What the program `plan` prints for a ticket. Document 01: "mark and rounds of the chosen plan, then each disk with its fetches in that plan. A
+// refusal prints `refused`, a space and the number. Every line ends in a line feed." Document 02, L5: the stop, which "is N".
 use returning::Counts;
-use returning::LeastSlots;
 use returning::Mark;
 use returning::Planned;
-use returning::SlotCount;
 ghost use mathlib.Core.Path.{_≡_};
 ghost use Prim.Native.Nat.{_+_, _*_, _≤_};
 ghost use lib.ListN.{length, getD};
 ghost use Rattle.bits.specs.Bits.{laid};
 ghost use Rattle.texts.specs.Texts.{Put};
-ghost use Rattle.report.specs.Report.{diskLines, printed, pagePrinted, slotsPrinted};
-ghost use Rattle.report.specs.Text.{planText, textOf, Small, leastText, Few};
+ghost use Rattle.report.specs.Report.{diskLines, printed};
+ghost use Rattle.report.specs.Text.{planText, textOf, Small};
 
 // The lines of the first `disks` disks.
 fn put_disks(out: &mut [u8], start: usize, fetches: [u16; 8], disks: usize) -> usize
@@ -72,49 +69,4 @@ pub fn report(ticket: &[u8], out: &mut [u8]) -> usize
     let planned = planner::plan(ticket, read.job.count, &mut short, &mut sparing);
     let disks = read.job.disks;
     put_planned(out, planned, disks)
-}
-
-// The text of `page` for a ticket, written as far as `out` reaches, and its length: the page, which is planned into `out`, or the line of a refusal.
-pub fn page(ticket: &[u8], out: &mut [u8]) -> usize
-    ensures bytes { λ r. ⌜ now (out .exit) ≡ laid (pagePrinted (length (now (out .entry))) (now (ticket .entry))) (now (out .entry)) ⌝ }
-    ensures count { λ r. ⌜ r ≡ length (pagePrinted (length (now (out .entry))) (now (ticket .entry))) ⌝ }
-{
-    let mut short = [0u8; 40962];
-    let mut sparing = [0u8; 40962];
-    let read = ticket::read(ticket);
-    let paged = planner::plan_with_page(ticket, read.job.count, &mut short, &mut sparing, out);
-    let number = paged.planned.number;
-    if number != 0 {
-        return texts::put_refusal(out, number);
-    }
-    paged.length
-}
-
-// What a call for the least slots gives, as text.
-fn put_least(out: &mut [u8], least: LeastSlots) -> usize
-    requires { ⌜ Few least ⌝ }
-    ensures text { λ r. ⌜ Put 0 (leastText least) (now (out .entry)) (now (out .exit)) r ⌝ }
-    ensures few { λ r. ⌜ r ≤ 14 ⌝ }
-{
-    let slots = least.slots;
-    match slots {
-        SlotCount::Unanswered => texts::put_refusal(out, least.number),
-        SlotCount::NoCount => texts::put_word(out, 0, b"none\n"),
-        SlotCount::Slots(s) => {
-            let at = texts::put_word(out, 0, b"slots");
-            texts::put_end(out, at, s)
-        }
-    }
-}
-
-// The text of `slots` for a ticket, a disk and the wanted rounds, written as far as `out` reaches, and its length, at most 14 bytes.
-pub fn slots(ticket: &[u8], disk: usize, wanted: usize, out: &mut [u8]) -> usize
-    ensures bytes { λ r. ⌜ now (out .exit) ≡ laid (slotsPrinted (now (ticket .entry)) disk wanted) (now (out .entry)) ⌝ }
-    ensures count { λ r. ⌜ r ≡ length (slotsPrinted (now (ticket .entry)) disk wanted) ⌝ }
-    ensures few { λ r. ⌜ r ≤ 14 ⌝ }
-{
-    let mut short = [0u8; 40962];
-    let read = ticket::read(ticket);
-    let least = planner::least_slots(ticket, read.job.count, disk, wanted, &mut short);
-    put_least(out, least)
 }

@@ -10,7 +10,7 @@ use Rattle.model.specs.Calls.{Planned as PlanGiven}
 use Rattle.model.specs.Calls.{Counts as CountsGiven}
 use Rattle.model.specs.Calls.{Mark as MarkGiven}
 use Rattle.model.specs.Calls.{Which as WhichGiven}
-use Rattle.model.specs.Slots.{SlotsFound, returnedSlots}
+use Rattle.slot_counts.specs.Slots.{SlotsFound, returnedSlots}
 use Rattle.returning.specs.Returning.{markAs, whichAs, plannedAs, chosenAs, leastAs}
 use Rattle.returning.specs.declared.Counts.{Counts}
 use Rattle.returning.specs.declared.Planned.{Planned}

@@ -5,7 +5,7 @@ use Prim.Native.Nat.{ℕ}
 use lib.Dec.{ltb, eqb}
 use Rattle.bits.specs.Reading.{Answer}
 use Rattle.model.specs.Calls.{isFirst, isSecond, ofTwo, whichFor, isShort, isSparing, Returned, returned, planGiven, pageLength, ReturnedChoice}
-use Rattle.model.specs.Slots.{ReturnedSlots}
+use Rattle.slot_counts.specs.Slots.{ReturnedSlots}
 use Rattle.model.specs.Calls.{Which as WhichGiven}
 use Rattle.model.specs.Calls.{PlannedPage as PageGiven}
 use Rattle.model.specs.Calls.{Mark as MarkGiven}
@@ -27,12 +27,6 @@ abbrev pub markAs : Option MarkGiven → Mark
 markAs none = Unmarked
 markAs (some isShort) = Short
 markAs (some isSparing) = Sparing
-
--- "the mark (0 short, 1 sparing)"; a call without a mark writes none
-abbrev pub markNumber : Mark → ℕ
-markNumber Unmarked = 0
-markNumber Short = 0
-markNumber Sparing = 1
 
 -- which of two sheets is handed back, and neither
 abbrev pub whichAs : Option WhichGiven → Which

@@ -1,16 +1,12 @@
-// What the calls return, by value, for a refusal and else; which of two sheets is handed back; the numbers of rooms that are too small; and counts
-// written for C. Document 01, its calls; document 02, L1, L2 and L10.
+// What the calls return, by value, for a refusal and else; which of two sheets is handed back; and the numbers of rooms that are too small. Document
+// 01, its calls; document 02, L1, L2 and L10.
 ghost use mathlib.Core.Path.{_≡_};
-ghost use mathlib.Core.List.{_∷_};
 ghost use mathlib.Core.Option.{none, some};
-ghost use Prim.Native.Nat.{_*_, _≤_};
-ghost use lib.ListN.{getD, take};
-ghost use Rattle.bits.specs.Fields.{laidAt};
+ghost use lib.ListN.{take};
 ghost use Rattle.bits.specs.Reading.{given, refused};
-ghost use Rattle.model.specs.Plans.{each};
-ghost use Rattle.model.specs.Calls.{whichFor, returned, returnedChoice, sheetHanded, halves};
-ghost use Rattle.model.specs.Slots.{returnedSlots};
-ghost use Rattle.returning.specs.Returning.{plannedAs, plannedPageAs, chosenAs, leastAs, whichAs, whichGiven, whichBegins, markOf, ofWhich, markNumber, preferenceOf, roomNumber, pageNumber};
+ghost use Rattle.model.specs.Calls.{whichFor, returned, returnedChoice, sheetHanded};
+ghost use Rattle.slot_counts.specs.Slots.{returnedSlots};
+ghost use Rattle.returning.specs.Returning.{plannedAs, plannedPageAs, chosenAs, leastAs, whichAs, whichGiven, whichBegins, markOf, ofWhich, preferenceOf, roomNumber, pageNumber};
 
 // The mark of the sheet that is run; `Unmarked` on a refusal.
 pub enum Mark {
@@ -230,28 +226,4 @@ pub fn page_number(number: usize, n: usize, page: usize) -> usize
         }
     }
     number
-}
-
-// The mark as a number.
-pub fn mark_number(mark: Mark) -> usize
-    ensures { λ r. ⌜ r ≡ markNumber mark ⌝ }
-{
-    match mark {
-        Mark::Unmarked => 0,
-        Mark::Short => 0,
-        Mark::Sparing => 1,
-    }
-}
-
-// Rounds and eight fetch counts, in 16 bits each and most significant byte first, written as far as the slice reaches, from the number `from` on.
-pub fn lay_counts(counts: &mut [u8], from: usize, rounds: usize, fetches: [u16; 8])
-    requires { ⌜ from ≤ 11 ⌝ }
-    ensures { λ r. ⌜ now (counts .exit) ≡ laidAt (from * 2) (halves (rounds ∷ each (λ d. getD fetches d 0) 0 8)) (now (counts .entry)) ⌝ }
-{
-    bits::lay16(counts, from, rounds);
-    let mut d = 0;
-    while d < 8 {
-        bits::lay16(counts, from + 1 + d, fetches[d] as usize);
-        d += 1;
-    }
 }

@@ -10,12 +10,12 @@ fn print_usage() {
 }
 
 // The answer for the ticket on standard input. A longer input is cut to 3,091 bytes, as in `plan`; what is printed is what the whole input gives
-// (`cut-slots` of `report`).
+// (`cut-slots` of `slots_text`).
 fn answer(disk: usize, wanted: usize) {
     let mut ticket = [0u8; 3091];
     let n = io::read_full(STDIN_FILENO, &mut ticket);
     let mut text = [0u8; 16];
-    let m = report::slots(&ticket[..n], disk, wanted, &mut text);
+    let m = slots_text::slots(&ticket[..n], disk, wanted, &mut text);
     io::write_all(STDOUT_FILENO, &text[..m]);
 }
 

@@ -1,5 +1,5 @@
--- What the value that was read says of the ticket and a stop: 0 and the job that they say, or the number with which one of them is refused. Assumes
--- nothing.
+-- What the value that was read says of the ticket and a stop: 0 and the job that they say, or the number with which one of them is refused; and of
+-- the ticket's references. Assumes nothing.
 use mathlib.Core.Path.{_≡_, refl, sym, ap, _∙_, subst}
 use mathlib.Core.Logic.{inl, inr}
 use mathlib.Core.List.{List}
@@ -11,13 +11,14 @@ use Rattle.bits.proofs.Logic.{by-test}
 use Rattle.bits.specs.Reading.{Answer, given, refused}
 use Rattle.model.specs.Job.{Job, refCount, upTo}
 use Rattle.model.specs.Ticket.{ticketOf}
-use Rattle.model.specs.Calls.{jobUpTo}
+use Rattle.model.specs.Calls.{jobUpTo, referencesOf}
 use Rattle.model.proofs.Ticket.{ticket-sound}
 use Rattle.model.proofs.Stop.{stops-exactly, stop-refusals}
 use Rattle.model.proofs.Numbers.{ticket-within}
 use Rattle.job.specs.Meaning.{jobOf, stored, counting, Fits}
 use Rattle.job.proofs.Laws.{jobOf-stored, stored-fits, jobOf-counting, counting-fits}
 use Rattle.ticket.specs.Meaning.{noTicket, answerOf, ticketRead, stopNumber}
+use Rattle.ticket.specs.declared.Ticket.{Ticket}
 
 module _ (t : List ℕ) (stop : ℕ) where
   -- the number of the ticket that was read, and the stop
@@ -70,3 +71,13 @@ module _ (t : List ℕ) (stop : ℕ) where
       go : Answered → jobUpTo t stop ≡ refused readNumber
       go (held j e few p q) = absurd (f p)
       go (none n e p some) = e ∙ ap refused (sym p)
+
+-- The references that were read are N.
+same-references : (a : Answer Job) → answerOf a .job .count ≡ referencesOf a
+unfolding answerOf noTicket stored
+same-references (given j) = refl
+same-references (refused n) = refl
+
+pub references-are : (t : List ℕ) (read : Ticket) → read ≡ ticketRead t → read .job .count ≡ referencesOf (ticketOf t)
+unfolding ticketRead
+references-are t read e = ap (λ (x : Ticket). x .job .count) e ∙ same-references (ticketOf t)

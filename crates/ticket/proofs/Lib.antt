@@ -2,3 +2,4 @@ mod Tables
 mod Ending
 mod Stages
 pub mod Laws
+pub mod Cut

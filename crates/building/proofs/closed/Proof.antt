@@ -5,7 +5,7 @@ use Prim.Native.Nat.{_<_}
 use native.Mathlib.Omega.{arith}
 use lib.ListN.{length}
 use Rattle.pieces.proofs.Laws.{begins-within}
-use Rattle.building.proofs.Leaves.{closed-refused, closed-paren, closed-wrong}
+use Rattle.building.proofs.Laws.{closed-refused, closed-paren, closed-wrong}
 use Rattle.building.proofs.closed.Statement.{statement}
 use Rattle.building.proofs.closed.Tie as tie
 

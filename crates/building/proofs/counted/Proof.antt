@@ -6,9 +6,10 @@ use Prim.Native.Nat.{_*_, _≤_}
 use native.Mathlib.Nat.{mul-le-mul, mul-comm}
 use native.Mathlib.Omega.{arith}
 use lib.ListN.{length}
+use Rattle.mixing.proofs.Room.{part-length}
 use Rattle.pieces.proofs.Laws.{count-within}
 use Rattle.building.specs.Building.{countedLine}
-use Rattle.building.proofs.Leaves.{counted-refused, line-refused, counted-wrong, line-wrong, counted-times, line-full, line-times, part-length, part-repeated}
+use Rattle.building.proofs.Laws.{counted-refused, line-refused, counted-wrong, line-wrong, counted-times, line-full, line-times, part-repeated}
 use Rattle.building.proofs.counted.Statement.{statement}
 use Rattle.building.proofs.counted.Tie as tie
 

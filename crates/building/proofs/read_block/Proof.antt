@@ -5,7 +5,7 @@ use Prim.Native.Nat.{_≤_, _<_}
 use native.Mathlib.Omega.{arith}
 use lib.ListN.{length}
 use Rattle.pieces.proofs.Laws.{digit-is-within, digits-within}
-use Rattle.building.proofs.Leaves.{block-number, block-none, laid-number, laid-full, laid-none}
+use Rattle.building.proofs.Laws.{block-number, block-none, laid-number, laid-full, laid-none}
 use Rattle.building.proofs.read_block.Statement.{statement}
 use Rattle.building.proofs.read_block.Tie as tie
 

@@ -9,7 +9,7 @@ use Rattle.job.specs.declared.Job.{Job as Stored}
 use Rattle.model.specs.Job.{Job, refCount}
 use Rattle.bits.specs.Bits.{bytes, bytesFor}
 use Rattle.model.specs.Sheet.{sheetBits}
-use Rattle.model.specs.Slots.{withSlots, Allowed}
+use Rattle.slot_counts.specs.Slots.{withSlots, Allowed}
 use Rattle.opening.proofs.Started.{refs-lent}
 use Rattle.driving.specs.Driving.{totalsOf}
 use Rattle.least.specs.Least.{triedRounds}

@@ -10,8 +10,9 @@ use Rattle.bits.proofs.Logic.{some-number}
 use Rattle.grammar.specs.Note.{Item}
 use Rattle.grammar.specs.Reading.{Before, nothing}
 use Rattle.pieces.proofs.Laws.{begins-within}
-use Rattle.building.specs.declared.Place.{Place}
-use Rattle.building.specs.Building.{capped, Ready}
+use Rattle.mixing.specs.declared.Place.{Place}
+use Rattle.mixing.specs.Room.{capped}
+use Rattle.sides.specs.Sides.{Ready}
 use Rattle.notes.specs.Readers.{ItemGot, ItemRead, NoteRead}
 use Rattle.notes.proofs.Joints.{Follows, follows}
 use Rattle.notes.proofs.Parts.{PartRead, part-few, deep-refused, inside-read, block-read, counted-read}
@@ -24,14 +25,14 @@ use Rattle.notes.proofs.+read_item+read_note.Lts-read_item as read-item
 use Rattle.notes.proofs.read_note.Reads as read-note
 use Rattle.notes.proofs.read_note.Kinds as read-note-kinds
 use Rattle.notes.proofs.+read_item+read_note.Lts-read_note as read-note-lts
-use Rattle.building.proofs.cap.Reads as cap-reads
 use Rattle.building.proofs.closed.Reads as closed-reads
 use Rattle.building.proofs.counted.Reads as counted-reads
-use Rattle.building.proofs.mix_side.Reads as mix-side-reads
 use Rattle.building.proofs.read_block.Reads as read-block-reads
 use Rattle.building.proofs.read_to.Reads as read-to-reads
 use Rattle.building.proofs.refused_at.Reads as refused-at-reads
-use Rattle.building.proofs.take_back.Reads as take-back-reads
+use Rattle.mixing.proofs.cap.Reads as cap-reads
+use Rattle.sides.proofs.mix_side.Reads as mix-side-reads
+use Rattle.sides.proofs.take_back.Reads as take-back-reads
 use Rattle.pieces.proofs.is_at.Reads as is-at-reads
 use Rattle.pieces.proofs.joint_after.Reads as joint-after-reads
 use Rattle.notes.proofs.+read_item+read_note.{statement}

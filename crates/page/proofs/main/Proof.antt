@@ -5,7 +5,7 @@ use Prim.Native.Nat.{_≤_}
 use native.Mathlib.Omega.{arith}
 use lib.ListN.{length}
 use lib.Seq.{length-take-le}
-use Rattle.report.proofs.PagePrinted.{printed-within}
+use Rattle.page_text.proofs.PagePrinted.{printed-within}
 use Rattle.page.proofs.main.Statement.{statement}
 use Rattle.page.proofs.main.Tie as tie
 

@@ -4,7 +4,7 @@ use denote.Ref.{now}
 use Rattle.job.specs.Meaning.{counting}
 use Rattle.model.specs.Calls.{pageFor}
 use Rattle.planner.proofs.Laws.{ticket-refused, ticket-given, ticket-fits}
-use Rattle.handing.proofs.Pages.{gives-page-refused}
+use Rattle.page_planning.proofs.Pages.{gives-page-refused}
 use Rattle.planner.proofs.Promised.{gives-page-ticket}
 use borrow.Author.Needs.{needs}
 use Rattle.planner.proofs.plan_with_page.Statement.{statement}

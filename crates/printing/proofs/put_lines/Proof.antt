@@ -5,8 +5,8 @@ use Prim.Native.Nat.{ℕ, _+_, _-_, _*_, _≤_, _<_}
 use native.Mathlib.Omega.{arith}
 use lib.ListN.{length, getD}
 use denote.Ref.{now}
-use Rattle.printing.specs.declared.Shown.{Shown}
-use Rattle.printing.specs.Printing.{lineBytes, placeAfter}
+use Rattle.lines.specs.declared.Shown.{Shown}
+use Rattle.lines.specs.Lines.{lineBytes, placeAfter}
 use Rattle.printing.proofs.Pages.{BeforeLine, line-first, line-next, line-small, line-less, lines-all, lines-length}
 use Rattle.printing.proofs.put_lines.Statement.{statement}
 use Rattle.printing.proofs.put_lines.Tie as tie

@@ -1,6 +1,7 @@
 -- `report::report` meets its contract. Assumes nothing.
 use denote.Ref.{now}
-use Rattle.report.proofs.Printed.{small, references-are, disks-few, put-printed}
+use Rattle.ticket.proofs.Laws.{references-are}
+use Rattle.report.proofs.Printed.{small, disks-few, put-printed}
 use borrow.Author.Needs.{needs}
 use Rattle.report.proofs.report.Statement.{statement}
 use Rattle.report.proofs.report.Tie as tie

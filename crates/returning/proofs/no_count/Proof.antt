@@ -1,6 +1,6 @@
 -- `no_count`: none, with all counts 0. Assumes nothing.
 use mathlib.Core.Path.{refl}
-use Rattle.model.specs.Slots.{returnedSlots}
+use Rattle.slot_counts.specs.Slots.{returnedSlots}
 use Rattle.returning.specs.Returning.{leastAs}
 use Rattle.returning.proofs.no_count.Statement.{statement}
 use Rattle.returning.proofs.no_count.Tie as tie

@@ -1,6 +1,6 @@
 -- `slots_refusal`: the number, no answer, and all counts 0. Assumes nothing.
 use mathlib.Core.Path.{refl}
-use Rattle.model.specs.Slots.{returnedSlots}
+use Rattle.slot_counts.specs.Slots.{returnedSlots}
 use Rattle.returning.specs.Returning.{leastAs}
 use Rattle.returning.proofs.slots_refusal.Statement.{statement}
 use Rattle.returning.proofs.slots_refusal.Tie as tie

@@ -1,0 +1,2 @@
+mod Laying
+pub mod Written

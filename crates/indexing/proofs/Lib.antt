@@ -1,0 +1,3 @@
+mod Backward
+pub mod Laws
+pub mod Opened

@@ -1,0 +1,3 @@
+pub mod Laws
+mod Columns
+pub mod LineRead

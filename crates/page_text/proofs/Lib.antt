@@ -1,0 +1,3 @@
+pub mod PagePrinted
+pub mod Cut
+pub mod Cases

@@ -1,0 +1,5 @@
+mod Answers
+pub mod Slots
+pub mod Calls
+mod Refusals
+pub mod Promises

@@ -1,0 +1,3 @@
+pub mod SlotsPrinted
+pub mod Cut
+pub mod Cases

@@ -1,0 +1,2 @@
+pub mod SlotsText
+pub mod Text
