@@ -12,23 +12,15 @@ use Rattle.bits.specs.Bits.{laid}
 use Rattle.bits.proofs.Logic.{by-test}
 use Rattle.model.specs.Plans.{each}
 use Rattle.model.specs.Rules.{distance}
-use Rattle.model.proofs.Plans.{length-each}
+use Rattle.model.proofs.Plans.{length-each, getD-each}
 use Rattle.lookup.specs.Lookup.{refDisks, chainFrom}
 use Rattle.lookup.proofs.Laws.{refDisks-length, refDisks-at}
 use Rattle.indexing.specs.Indexing.{firsts, nextOf, agains}
 
--- the list f i, f (i + 1), ..
+-- the list f 0, f 1, .., and with one value changed
+each-at : {A : Type 0} (f : ℕ → A) (n k : ℕ) (x : A) → k < n → getD (each f 0 n) k x ≡ f k
+each-at f n k x l = getD-each f 0 n k x l ∙ ap f (let e : 0 + k ≡ k = omega arith in e)
 
-each-from : {A : Type 0} (f : ℕ → A) (i n k : ℕ) (d : A) (m : ℕ) → m ≡ i + k → k < n → getD (each f i n) k d ≡ f m
-unfolding each
-each-from f i zero k d m e p = absurd (omega arith)
-each-from f i (suc n) zero d m e p = let same : i ≡ m = omega arith in ap f same
-each-from f i (suc n) (suc k) d m e p = each-from f (suc i) n k d m (omega arith) (omega arith)
-
-pub getD-each : {A : Type 0} (f : ℕ → A) (n k : ℕ) (d : A) → k < n → getD (each f 0 n) k d ≡ f k
-getD-each f n k d p = each-from f 0 n k d k (omega arith) p
-
--- one value changed
 pub set-each : (f g : ℕ → ℕ) (n b v : ℕ) → b < n → g b ≡ v → ((i : ℕ) → i ≢ b → f i ≡ g i) → set (each f 0 n) b v ≡ each g 0 n
 set-each f g n b v p e other =
     let lf = length-each f 0 n in
@@ -36,14 +28,14 @@ set-each f g n b v p e other =
     let ls = length-set (each f 0 n) b v in
     ext-getD 0 (set (each f 0 n) b v) (each g 0 n) (omega (arith, lf, lg, ls)) λ i q.
     let small : i < n = omega (arith, lf, ls, q) in
-    getD-each-set i small ∙ sym (getD-each g n i 0 small)
+    getD-each-set i small ∙ sym (each-at g n i 0 small)
   where
     getD-each-set : (i : ℕ) → i < n → getD (set (each f 0 n) b v) i 0 ≡ g i
     getD-each-set i q =
         let lf = length-each f 0 n in
         by-test (eqb i b)
         (λ y. let same = eqb-true i b y in rw same (getD-set-same (each f 0 n) b v 0 (omega (arith, lf)) ∙ sym e))
-        (λ y. let apart = eqb-false i b y in getD-set-other (each f 0 n) b i v 0 apart ∙ getD-each f n i 0 q ∙ other i apart)
+        (λ y. let apart = eqb-false i b y in getD-set-other (each f 0 n) b i v 0 apart ∙ each-at f n i 0 q ∙ other i apart)
 
 -- a string written over another as far as that reaches
 
@@ -62,13 +54,13 @@ firsts-length l n p = length-each (distance l p) 0 n
 
 pub firsts-at : (l : List ℕ) (n p b : ℕ) → b < n → getD (firsts l n p) b 0 ≡ distance l p b
 unfolding firsts
-firsts-at l n p b h = getD-each (distance l p) n b 0 h
+firsts-at l n p b h = each-at (distance l p) n b 0 h
 
 pub agains-at : (l table : List ℕ) (i : ℕ) → i < length l → i < length table → getD (agains l table) i 0 ≡ distance l (suc i) (getD l i 0)
 unfolding agains
 agains-at l table i h room =
     let e = length-each (nextOf l) 0 (length l) in
-    laid-at (each (nextOf l) 0 (length l)) table i (omega (arith, e)) room ∙ getD-each (nextOf l) (length l) i 0 h
+    laid-at (each (nextOf l) 0 (length l)) table i (omega (arith, e)) room ∙ each-at (nextOf l) (length l) i 0 h
 
 -- what `chain` writes
 module _ (disks refs : List ℕ) where

@@ -1,4 +1,5 @@
 // Planning of a job with the page of the plan handed back, into lent buffers, where the page and both sheets fit. Document 02, L2.
+use handing::sheet_length;
 use job::Job;
 use returning::PlannedPage;
 ghost use mathlib.Core.Path.{_≡_};
@@ -35,12 +36,7 @@ pub fn page_job(job: Job, short: &mut [u8], sparing: &mut [u8], page: &mut [u8])
     let lines = returning::of_which(which, a.rounds, b.rounds) * job.disks;
     let length = lines * 17 + 85;
     let refused = returning::page_number(
-        returning::room_number(
-            handing::sheet_length(a),
-            short.len(),
-            handing::sheet_length(b),
-            sparing.len(),
-        ),
+        returning::room_number(sheet_length(a), short.len(), sheet_length(b), sparing.len()),
         length,
         page.len(),
     );
