@@ -1,4 +1,6 @@
 // One action of a sheet, read for the job that the sheet is of. Document 01, 9 and 11 to 14 of "Numbers of a refused call"; 20 of request L3.
+#![tactic(auto)]
+
 ghost use Rattle.std.specs.Prelude.{◌≡◌, ◌≤◌, ◌<◌, ◌^◌};
 ghost use Rattle.actions.specs.Actions.{named_after, discard_at, action_at};
 
@@ -6,7 +8,7 @@ use bits::Field;
 
 // The block that a field of a sheet names, as one disk sees it: the sheet ends inside the field; B or more, or on another disk; one of the disk's,
 // outside its buffer or in it.
-#[derive(Drop)]
+#[derive(Clone, Copy)]
 enum Named {
     Ended,
     Elsewhere,
@@ -15,7 +17,7 @@ enum Named {
 }
 
 // One action of a sheet: nothing; a fetched block; a fetched block (first) in place of a discarded one; or the number of a refusal.
-#[derive(Drop)]
+#[derive(Clone, Copy)]
 pub enum Act {
     Idle,
     Fetch(usize),

@@ -1,9 +1,11 @@
 // Numbers that a program is given as its arguments, in decimal digits.
+#![tactic(auto)]
+
 ghost use Rattle.std.specs.Prelude.{◌≡◌, ◌≤◌};
 ghost use Rattle.arguments.specs.Arguments.{number_in, with_digit, argument_as};
 
 // A number, or no number.
-#[derive(Drop)]
+#[derive(Clone, Copy)]
 pub enum Argument {
     Malformed,
     Number(usize),

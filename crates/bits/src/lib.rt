@@ -1,4 +1,6 @@
 // Fields of a string of bytes: reading them, packing them into a buffer, and writing results into lent slices.
+#![tactic(auto)]
+
 pub mod read;
 
 ghost use Rattle.std.specs.Prelude.{◌≡◌, ◌+◌, ◌*◌, ◌/◌, ◌^◌, ◌≤◌, ◌<◌, length, take};
@@ -6,7 +8,7 @@ ghost use Rattle.bits.specs.Bits.{digits, be16, over};
 ghost use Rattle.bits.specs.Fields.{put_bits, ClearFrom, laid_at};
 
 // What reading a field gives: its value, or that the bytes end inside it.
-#[derive(Drop)]
+#[derive(Clone, Copy)]
 pub enum Field {
     Value(usize),
     Ended,

@@ -1,12 +1,14 @@
 // The pieces of a note, read and built: a block, a note in parentheses, a part with its count. The references of a piece are built at the end of a
 // line of 2,048 entries. More than 2,048 references in all are counted no further, and not built. Document 02, L6.
+#![tactic(auto)]
+
 ghost use Rattle.std.specs.Prelude.{◌≡◌, ◌≤◌, length};
 ghost use Rattle.building.specs.Building.{refused_piece, block_at, block_laid, closed_at, counted_at, counted_line};
 
 use mixing::Place;
 
 // A piece that was read: the place after it and the count of its references, 2049 for more than 2048; or the number of a refusal and where it is met.
-#[derive(Drop)]
+#[derive(Clone, Copy)]
 pub struct Piece {
     pub number: usize,
     pub at: usize,

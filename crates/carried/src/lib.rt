@@ -1,4 +1,6 @@
 // The blocks carried in, which follow a ticket's references: for each disk a count and then that many block numbers.
+#![tactic(auto)]
+
 ghost use Rattle.std.specs.Prelude.{◌≡◌, ◌+◌, ◌*◌, ◌^◌, ◌≤◌, ◌<◌, length};
 ghost use Rattle.bits.specs.Bits.{Below};
 ghost use Rattle.entries.specs.Parts.{fill};

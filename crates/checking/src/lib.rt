@@ -1,5 +1,7 @@
 // A sheet read and played action by action. Document 01, "Playing a round", and 9, 10, 15 and 16 of "Numbers of a refused call"; L7, which rounds are
 // charged.
+#![tactic(auto)]
+
 ghost use Rattle.std.specs.Prelude.{◌≡◌, ◌≤◌, ◌<◌, ◌^◌, drop};
 ghost use Rattle.bits.specs.Bits.{bits};
 ghost use Rattle.bits.specs.Reading.{refused};
@@ -15,7 +17,7 @@ use playing::Buffers;
 
 // What the check gives: its number, 0 for a pass; the sheet's rounds, up to the one in which the last reference is consumed (L7), and its fetches on
 // each disk. A refusal has all counts 0.
-#[derive(Drop)]
+#[derive(Clone, Copy)]
 pub struct Checked {
     pub number: usize,
     pub rounds: usize,

@@ -1,4 +1,6 @@
 // What a rule chooses for one disk, from its tables.
+#![tactic(auto)]
+
 ghost use Rattle.std.specs.Prelude.{◌≡◌, ◌+◌, ◌-◌, ◌≤◌, ◌<◌};
 ghost use Rattle.bits.specs.Bits.{Below};
 ghost use Rattle.lookup.specs.Desk.{nexts, laters, helds};
@@ -7,7 +9,7 @@ ghost use Rattle.choosing.specs.Choosing.{key_at, last_place, some_beyond, also_
 use lookup::Desk;
 
 // The two rules.
-#[derive(Drop)]
+#[derive(Clone, Copy)]
 pub enum Rule {
     Short,
     Sparing,
@@ -15,7 +17,7 @@ pub enum Rule {
 
 // What a disk does, with the reason. Where it fetches: the block U, and the place among the residents that U takes, the first empty one or the
 // min-block's.
-#[derive(Drop)]
+#[derive(Clone, Copy)]
 pub enum Choice {
     IntoEmpty(usize, usize),
     OverMinBlock(usize, usize),

@@ -1,6 +1,8 @@
 // What the calls write for C: the numbers of a check that passes, of a planning call and of a choice, laid into a lent slice, 16 bits each and most
 // significant byte first, as far as that reaches; and the call's number, which is returned. A refusal writes nothing. Document 01, its calls;
 // document 02, L1.
+#![tactic(auto)]
+
 ghost use Rattle.std.specs.Prelude.{◌≡◌, ◌*◌, ◌≤◌};
 ghost use Rattle.bits.specs.Fields.{laid_at};
 ghost use Rattle.model.specs.Calls.{halves};

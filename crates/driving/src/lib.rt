@@ -1,4 +1,6 @@
 // One plan, from any buffers and their desk: its rounds, its fetches, its sheet and the reasons for its actions.
+#![tactic(auto)]
+
 ghost use Rattle.std.specs.Prelude.{◌≡◌, ◌≤◌, replicate};
 ghost use Rattle.bits.specs.Bits.{bytes, laid};
 ghost use Rattle.model.specs.Sheet.{sheet_bits};
@@ -11,7 +13,7 @@ use playing::Buffers;
 use writing::Actions;
 
 // The rounds written and the fetches of a plan, and how many bits its sheet has.
-#[derive(Drop)]
+#[derive(Clone, Copy)]
 pub struct Totals {
     pub rounds: usize,
     pub fetches: [u16; 8],

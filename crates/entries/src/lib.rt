@@ -1,4 +1,6 @@
 // The parts of a ticket: a count and then that many entries.
+#![tactic(auto)]
+
 ghost use Rattle.std.specs.Prelude.{◌≡◌, ◌+◌, ◌^◌, ◌≤◌, ◌<◌, length};
 ghost use Rattle.entries.specs.Parts.{entry_at, of_row, fill, part_at};
 
@@ -7,7 +9,7 @@ use bits::read::field;
 
 // A row of document 01's table of ticket fields, or a field of document 02's L9: its bits, its values, from `least` on and below `limit`, and the
 // number that refuses others.
-#[derive(Drop)]
+#[derive(Clone, Copy)]
 pub struct Row {
     pub width: usize,
     pub least: usize,
@@ -16,7 +18,7 @@ pub struct Row {
 }
 
 // What reading one field gives: its value, or the number that refuses it.
-#[derive(Drop)]
+#[derive(Clone, Copy)]
 pub enum Entry {
     Value(usize),
     Refused(usize),
@@ -24,7 +26,7 @@ pub enum Entry {
 
 // What reading a part of a ticket gives. A part is a count and then that many entries. 0, the count and the bit after the part; or the number
 // that refuses it. Of the blocks carried in on all disks, the count is that of the disks.
-#[derive(Drop)]
+#[derive(Clone, Copy)]
 pub struct Part {
     pub number: usize,
     pub count: usize,

@@ -1,4 +1,6 @@
 // Planning of a job into lent buffers: both sheets, where both fit. Document 01, planning.
+#![tactic(auto)]
+
 ghost use Rattle.std.specs.Prelude.{◌≡◌, ◌^◌, ◌≤◌, ◌<◌, length, take};
 ghost use Rattle.bits.specs.Bits.{bytes_for, over};
 ghost use Rattle.bits.specs.Reading.{given};

@@ -1,5 +1,7 @@
 // The tables of a job, made once from its reference list: for empty buffers the desk and the steps, in two backward passes; and the residents, which
 // come as a job has its blocks, in 16 bits.
+#![tactic(auto)]
+
 ghost use Rattle.std.specs.Prelude.{◌≡◌, ◌≤◌, length, set};
 ghost use Rattle.bits.specs.Bits.{Below};
 ghost use Rattle.lookup.specs.Lookup.{ref_disks};

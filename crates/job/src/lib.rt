@@ -1,5 +1,7 @@
 // A job by value, as reading a ticket gives it. Entries past the counts are 0, or references of the ticket past a stop.
-#[derive(Drop)]
+#![tactic(auto)]
+
+#[derive(Clone, Copy)]
 pub struct Job {
     // disks D, and the buffer slots of each
     pub disks: usize,

@@ -1,5 +1,7 @@
 // The least slot count of a disk with which the short plan of a job is within the wanted rounds, found by one short plan after another. Document 02,
 // L10.
+#![tactic(auto)]
+
 ghost use Rattle.std.specs.Prelude.{◌≡◌, cond, ◌^◌, ◌≤◌, ◌<◌, ltb, length, take};
 ghost use Rattle.bits.specs.Bits.{bytes_for, over};
 ghost use Rattle.job.specs.Meaning.{job_of, Fits};

@@ -1,4 +1,6 @@
 // A line of a page: what a plan's sheet shows of one action, where the line of it stands, and its text. Document 02, L2.
+#![tactic(auto)]
+
 ghost use Rattle.std.specs.Prelude.{◌≡◌, ◌^◌, ◌≤◌, ◌<◌};
 ghost use Rattle.bits.specs.Fields.{field_at};
 ghost use Rattle.lines.specs.Lines.{column_of, block_column, line_bytes, value_of, shown_at, place_after};
@@ -15,7 +17,7 @@ pub const LEGEND: [[u8; 16]; 5] = [
 ];
 
 // What a sheet says of one action, and the bit after it. The number 512 stands for no block.
-#[derive(Drop)]
+#[derive(Clone, Copy)]
 pub struct Shown {
     pub fetched: usize,
     pub discarded: usize,
@@ -23,7 +25,7 @@ pub struct Shown {
 }
 
 // Where a line stands: its number on the page, the bit where its action begins on the sheet, its round and its disk.
-#[derive(Drop)]
+#[derive(Clone, Copy)]
 pub struct Place {
     pub line: usize,
     pub at: usize,

@@ -1,4 +1,6 @@
 // What the program `passes` prints for a note of passes: its references. Document 02, L6.
+#![tactic(auto)]
+
 ghost use Rattle.std.specs.Prelude.{◌≡◌, ◌≤◌, length};
 ghost use Rattle.bits.specs.Bits.{laid};
 ghost use Rattle.texts.specs.Texts.{Put};

@@ -1,5 +1,7 @@
 // The desk of a plan: distances of blocks, residents and pointers of disks, each a row, kept up in constant time a reference. The steps lead from
 // each reference to the next. How a position is held is known here only.
+#![tactic(auto)]
+
 ghost use Rattle.std.specs.Prelude.{◌≡◌, ◌<◌, ◌≤◌, length, get_or};
 ghost use Rattle.lookup.specs.Desk.{cell, with_cell, of_block, of_disk};
 

@@ -1,12 +1,14 @@
 // References in lent slices: copied, repeated, and two sides taken in turn; counts of references, and the place where a piece of a note is read.
 // Document 02, L6.
+#![tactic(auto)]
+
 ghost use Rattle.std.specs.Prelude.{◌≡◌, ◌*◌, ◌≤◌, length, take, drop};
 ghost use Rattle.grammar.specs.Note.{repeated, in_turn};
 ghost use Rattle.mixing.specs.Room.{capped};
 
 // Where a piece of a note is read: the place of its first character, how many parentheses may still be opened, and how many references stand before
 // it in the line and on the left, 2049 for more than 2048.
-#[derive(Drop)]
+#[derive(Clone, Copy)]
 pub struct Place {
     pub at: usize,
     pub depth: usize,

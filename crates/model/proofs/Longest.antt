@@ -12,7 +12,7 @@ use Rattle.bits.proofs.Logic.{Each, get_d_same}
 use Rattle.bits.proofs.Bits.{length_digits, length-bits, length-pack}
 use Rattle.model.specs.Job.{Sound, Job, disk_count, disk_of, carried_on, carried_at}
 use Rattle.model.specs.Ticket.{ticket_bits, ticket_of}
-use Rattle.model.specs.Playing.{Action, idle, fetch, replace, Schedule, State, start}
+use Rattle.model.specs.Playing.{Action, idle, fetch, replace, Schedule, State, start, play_round}
 use Rattle.model.specs.Plans.{each}
 use Rattle.model.specs.Sheet.{action_bits, round_bits, rounds_bits, sheet_bits, sheet_of}
 use Rattle.model.specs.Calls.{Counts, check_answer}
@@ -159,7 +159,7 @@ sheet_longest =
 allowed-each : (j : Job) → disk_count j ≤ 8 → (s : State) (schedule : Schedule) → Allowed j s schedule → Each (λ (actions : List Action). length actions ≤ 8) schedule
 unfolding Allowed Each
 allowed-each j few s [] h = tt
-allowed-each j few s (actions ∷ more) h = ((let e = h.0 in omega (arith, e)), allowed-each j few _ more h.3)
+allowed-each j few s (actions ∷ more) h = ((let e = h.0 in omega (arith, e)), allowed-each j few (play_round j s actions) more h.3)
 
 pub passed_length : (t : List ℕ) (stop : ℕ) (s : List ℕ) (c : Counts) → check_answer t stop s ≡ given c → length s ≤ 40962
 unfolding sheet_bits

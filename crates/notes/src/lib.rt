@@ -1,5 +1,7 @@
 // A note of passes made into the reference string. Document 02, L6: "The string is exactly the meaning of the note, and a note has one reading. It
 // goes into a lent slice of 16-bit numbers, one for each reference, and its count is returned; entries past it stay."
+#![tactic(auto)]
+
 ghost use Rattle.std.specs.Prelude.{◌≡◌, length};
 ghost use Rattle.grammar.specs.Reading.{note_answer};
 ghost use Rattle.sides.specs.Sides.{Ready};
@@ -11,7 +13,7 @@ use mixing::Place;
 use sides::Sides;
 
 // What the call returns: the number of the refusal, 0 for none, and the count of the references.
-#[derive(Drop)]
+#[derive(Clone, Copy)]
 pub struct Passes {
     pub number: usize,
     pub count: usize,

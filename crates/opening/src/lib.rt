@@ -1,4 +1,6 @@
 // What the plans of a job start from, before round 1: the buffers, with the blocks carried in (document 02, L9), their desk, and the steps.
+#![tactic(auto)]
+
 ghost use Rattle.std.specs.Prelude.{◌≡◌, suc, ◌≤◌, length};
 ghost use Rattle.bits.specs.Bits.{Below};
 ghost use Rattle.job.specs.Meaning.{Fits};

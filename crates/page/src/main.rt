@@ -1,7 +1,9 @@
 // The program: it reads a ticket from standard input, plans it into buffers that hold the longest sheets and the longest page, and prints the page.
+#![tactic(auto)]
+
 ghost use Rattle.std.specs.Prelude.{◌≡◌, length};
 
-use libc::{STDIN_FILENO, STDOUT_FILENO};
+use std::io;
 
 // A buffer for the longest page.
 fn buffer() -> [u8; 278613]
@@ -12,10 +14,10 @@ fn buffer() -> [u8; 278613]
 
 // A longer input is cut to 3,091 bytes, one more than the longest ticket, as in `plan`; what is printed is what the whole input gives (`cut_page` of
 // `page_text`).
-fn main() {
+fn main(rt: HostRuntime) -> io::Result<()> {
     let mut ticket = [0u8; 3091];
-    let n = io::read_full(STDIN_FILENO, &mut ticket);
+    let n = input::read_front(&mut rt.stdin(), &mut ticket)?;
     let mut text = buffer();
     let m = page_text::page(&ticket[..n], &mut text);
-    io::write_all(STDOUT_FILENO, &text[..m]);
+    rt.write_all(&text[..m])
 }

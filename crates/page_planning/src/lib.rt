@@ -1,4 +1,6 @@
 // Planning of a job with the page of the plan handed back, into lent buffers, where the page and both sheets fit. Document 02, L2.
+#![tactic(auto)]
+
 ghost use Rattle.std.specs.Prelude.{◌≡◌, length};
 ghost use Rattle.bits.specs.Reading.{given};
 ghost use Rattle.job.specs.Meaning.{job_of, Fits};

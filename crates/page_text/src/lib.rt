@@ -1,5 +1,7 @@
 // What the program `page` prints for a ticket. Document 02, L2: the page; L5: the stop, which "is N". Document 01: "A refusal prints `refused`, a
 // space and the number."
+#![tactic(auto)]
+
 ghost use Rattle.std.specs.Prelude.{◌≡◌, length};
 ghost use Rattle.bits.specs.Bits.{laid};
 ghost use Rattle.page_text.specs.PageText.{page_printed};

@@ -1,17 +1,19 @@
 // The pieces of a note in a text: numbers, the count after a part, and what stands between two items. Document 02, L6.
+#![tactic(auto)]
+
 ghost use Rattle.std.specs.Prelude.{◌≡◌, ◌+◌, ◌≤◌, ◌<◌, length, drop};
 ghost use Rattle.grammar.specs.Reading.{goes_on};
 ghost use Rattle.pieces.specs.Pieces.{begins_with, first_digit, digits_from, count_at, refused_joint, joint_at};
 
 // A number, and the place after it.
-#[derive(Drop)]
+#[derive(Clone, Copy)]
 pub struct Numeral {
     pub value: usize,
     pub at: usize,
 }
 
 // How many times a part is taken, and the place after that; or the number of a refusal and where it is met.
-#[derive(Drop)]
+#[derive(Clone, Copy)]
 pub struct Counted {
     pub number: usize,
     pub at: usize,
@@ -20,7 +22,7 @@ pub struct Counted {
 
 // What follows an item, and the place after it: whether the side is complete, and whether another item follows, of this side or the next; or the
 // number of a refusal and where it is met.
-#[derive(Drop)]
+#[derive(Clone, Copy)]
 pub struct Joint {
     pub number: usize,
     pub at: usize,

@@ -1,10 +1,12 @@
 // The public calls: planning and the part with the sheet to run, planning with a page, the check, the choice between two sheets and the sheet chosen,
-// the least slots of a disk and the sheet for them; and planning, check and choice from C. Document 01, its calls; document 02, L1 to L3, L10, and
+// the least slots of a disk and the sheet for them. Document 01, its calls; document 02, L1 to L3, L10, and
 // L5: all calls take a stop, "the number of references that count", and any number may be given; 21 if it is above N. L7: rounds are those charged,
 // in all that is returned. L8: planning promises how many rounds the sparing plan takes at most. L9: a ticket has the blocks carried in, from which
 // plans and sheets start.
+#![tactic(auto)]
+
 ghost use Rattle.std.specs.Prelude.{◌≡◌, take};
-ghost use Rattle.model.specs.Calls.{mark_for, chosen, short_after, sparing_after, returned, part_of, plan_given, page_length, page_after, check_answer, choose_answer, returned_choice, sheet_handed, counts_written, counts_numbers, planning_numbers, choice_numbers, number_of};
+ghost use Rattle.model.specs.Calls.{mark_for, chosen, short_after, sparing_after, returned, part_of, plan_given, page_length, page_after, check_answer, choose_answer, returned_choice, sheet_handed};
 ghost use Rattle.slot_counts.specs.Slots.{slots_after, returned_slots};
 ghost use Rattle.checking.specs.Checking.{checked_of};
 ghost use Rattle.returning.specs.Returning.{planned_as, chosen_as, least_as, which_given, which_begins};
@@ -156,57 +158,4 @@ pub fn slots_part<'a>(short: &'a [u8], least: LeastSlots) -> &'a [u8]
     ensures buffer { result.ref_ptr ≡ short.entry.ref_ptr }
 {
     returning::front(short, least.length)
-}
-
-// The check, from C: its number, and its rounds and eight fetch counts in `counts`, as far as that reaches.
-#[unsafe(no_mangle)]
-pub extern "C" fn planner_check(ticket: &[u8], stop: usize, sheet: &[u8], counts: &mut [u8]) -> u32
-    ensures { let a = check_answer ticket.now stop sheet.now in
-        (result ≡ number_of a)
-        × (counts.new ≡ counts_written counts_numbers a counts.old)
-        × Exact ticket.now stop sheet.now (checked_of a)
-        × Unbeaten ticket.now stop (checked_of a) }
-{
-    let c = check(ticket, stop, sheet);
-    let fetches = c.fetches;
-    counts::lay_checked(counts, c.number, c.rounds, fetches)
-}
-
-// Planning, from C: its number; in `counts`, as far as that reaches, the mark (0 short, 1 sparing), the length of the part, and the rounds and eight
-// fetch counts of the short and of the sparing plan.
-#[unsafe(no_mangle)]
-pub extern "C" fn planner_plan(
-    ticket: &[u8],
-    stop: usize,
-    short: &mut [u8],
-    sparing: &mut [u8],
-    counts: &mut [u8],
-) -> u32
-    ensures { let a = plan_into ticket.now stop short.old sparing.old in
-        (result ≡ number_of a)
-        × (short.new ≡ short_after a short.old)
-        × (sparing.new ≡ sparing_after a sparing.old)
-        × (counts.new ≡ counts_written planning_numbers a counts.old)
-        × Promised ticket.now stop a }
-{
-    let p = plan(ticket, stop, short, sparing);
-    counts::lay_planned(counts, p)
-}
-
-// The choice, from C: its number; in `counts`, as far as that reaches, which sheet is handed back (0 the first, 1 the second) and its length.
-#[unsafe(no_mangle)]
-pub extern "C" fn planner_choose(
-    ticket: &[u8],
-    stop: usize,
-    first: &[u8],
-    second: &[u8],
-    counts: &mut [u8],
-) -> u32
-    ensures { let a = choose_answer ticket.now stop first.now second.now in
-        (result ≡ number_of a)
-        × (counts.new ≡ counts_written choice_numbers a counts.old)
-        × Preferred ticket.now stop first.now second.now a }
-{
-    let c = choose(ticket, stop, first, second);
-    counts::lay_chosen(counts, c)
 }

@@ -1,4 +1,6 @@
 // Both plans of a job: their rounds, their fetches, their sheets and the reasons for their actions.
+#![tactic(auto)]
+
 ghost use Rattle.std.specs.Prelude.{◌≡◌, replicate};
 ghost use Rattle.bits.specs.Bits.{bytes, laid};
 ghost use Rattle.job.specs.Meaning.{Fits, job_of};
@@ -15,7 +17,7 @@ use job::Job;
 use lookup::{Desk, Steps};
 
 // The short and the sparing plan.
-#[derive(Drop)]
+#[derive(Clone, Copy)]
 pub struct Plans {
     pub short: Totals,
     pub sparing: Totals,

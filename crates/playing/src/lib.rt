@@ -1,12 +1,14 @@
 // The playing state by value. Document 01, "Playing a round": "Which blocks are in the buffers is kept as one mark for each of the 512 block
 // numbers. Playing takes the state of the buffers and gives back the next." Document 02, L9: the blocks carried in, and what is read before round 1.
+#![tactic(auto)]
+
 ghost use Rattle.std.specs.Prelude.{◌≡◌, ◌+◌, ◌<◌, ◌≤◌, ◌^◌, length, get_or, take, drop};
 ghost use Rattle.bits.specs.Bits.{Below};
 ghost use Rattle.model.specs.Playing.{marked};
 ghost use Rattle.playing.specs.Playing.{carrying_buffers, fetch_into, discard_from, replace_in, consume_one, read_on_from};
 
 // The mark of each block, how many blocks each disk holds, and the next read.
-#[derive(Drop)]
+#[derive(Clone, Copy)]
 pub struct Buffers {
     pub resident: [bool; 512],
     pub held: [u8; 8],

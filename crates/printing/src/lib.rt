@@ -1,4 +1,6 @@
 // The page of a plan: its lines, read back from the plan's sheet and reasons, and the legend. Document 02, L2.
+#![tactic(auto)]
+
 ghost use Rattle.std.specs.Prelude.{◌≡◌, ◌+◌, ◌*◌, ◌^◌, ◌≤◌, ◌<◌, length};
 ghost use Rattle.bits.specs.Bits.{laid, Below};
 ghost use Rattle.bits.specs.Fields.{laid_at};

@@ -1,5 +1,7 @@
 // What the program `plan` prints for a ticket. Document 01: "mark and rounds of the chosen plan, then each disk with its fetches in that plan. A
 // refusal prints `refused`, a space and the number. Every line ends in a line feed." Document 02, L5: the stop, which "is N".
+#![tactic(auto)]
+
 ghost use Rattle.std.specs.Prelude.{◌≡◌, ◌+◌, ◌*◌, ◌≤◌, length, get_or};
 ghost use Rattle.bits.specs.Bits.{laid};
 ghost use Rattle.texts.specs.Texts.{Put};

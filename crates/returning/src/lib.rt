@@ -1,5 +1,7 @@
 // What the calls return, by value, for a refusal and else; which of two sheets is handed back; and the numbers of rooms that are too small. Document
 // 01, its calls; document 02, L1, L2 and L10.
+#![tactic(auto)]
+
 ghost use Rattle.std.specs.Prelude.{◌≡◌, take};
 ghost use Rattle.std.proofs.Math.Option.{none, some};
 ghost use Rattle.bits.specs.Reading.{given, refused};
@@ -8,7 +10,7 @@ ghost use Rattle.slot_counts.specs.Slots.{returned_slots};
 ghost use Rattle.returning.specs.Returning.{planned_as, planned_page_as, chosen_as, least_as, which_as, which_given, which_begins, mark_of, of_which, preference_of, room_number, page_number};
 
 // The mark of the sheet that is run; `Unmarked` on a refusal.
-#[derive(Drop)]
+#[derive(Clone, Copy)]
 pub enum Mark {
     Unmarked,
     Short,
@@ -16,7 +18,7 @@ pub enum Mark {
 }
 
 // The rounds of a plan, and its fetches on each disk.
-#[derive(Drop)]
+#[derive(Clone, Copy)]
 pub struct Counts {
     pub rounds: usize,
     pub fetches: [u16; 8],
@@ -24,7 +26,7 @@ pub struct Counts {
 
 // What planning gives: its number, 0 where it is not refused; the mark; the length of the part with the chosen sheet; and for both plans the
 // rounds and the fetches of each disk. A refusal has all counts 0.
-#[derive(Drop)]
+#[derive(Clone, Copy)]
 pub struct Planned {
     pub number: usize,
     pub mark: Mark,
@@ -34,14 +36,14 @@ pub struct Planned {
 }
 
 // What planning with a page gives: what planning gives, and the page's length, 0 on a refusal.
-#[derive(Drop)]
+#[derive(Clone, Copy)]
 pub struct PlannedPage {
     pub planned: Planned,
     pub length: usize,
 }
 
 // Which of two sheets is handed back; `Neither` on a refusal.
-#[derive(Drop)]
+#[derive(Clone, Copy)]
 pub enum Which {
     Neither,
     First,
@@ -49,7 +51,7 @@ pub enum Which {
 }
 
 // What a choice gives: its number, 0 where it is not refused; which sheet is handed back; and that sheet's length, 0 on a refusal.
-#[derive(Drop)]
+#[derive(Clone, Copy)]
 pub struct Chosen {
     pub number: usize,
     pub which: Which,
@@ -57,7 +59,7 @@ pub struct Chosen {
 }
 
 // The least slot count of a disk, or that there is none; `Unanswered` on a refusal.
-#[derive(Drop)]
+#[derive(Clone, Copy)]
 pub enum SlotCount {
     Unanswered,
     NoCount,
@@ -66,7 +68,7 @@ pub enum SlotCount {
 
 // What a call for the least slots gives: its number, 0 where it is not refused; the count, or that there is none; and the length, the rounds and the
 // fetches of the short sheet for it, all 0 where there is none.
-#[derive(Drop)]
+#[derive(Clone, Copy)]
 pub struct LeastSlots {
     pub number: usize,
     pub slots: SlotCount,

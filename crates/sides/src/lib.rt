@@ -1,12 +1,14 @@
 // The sides of a note that are complete: each is mixed with those before it, on the left, at the end of a slice of 2,048 entries, and all of them are
 // taken back into the line of 2,048 entries. More than 2,048 references in all are counted no further, and not built. Document 02, L6.
+#![tactic(auto)]
+
 ghost use Rattle.std.specs.Prelude.{◌≡◌, ◌≤◌};
 ghost use Rattle.sides.specs.Sides.{sides_after, side_mixed, taken_back, Ready};
 
 use mixing::Place;
 
 // The counts of a note so far: of the side that is read, and of the sides before it, mixed.
-#[derive(Drop)]
+#[derive(Clone, Copy)]
 pub struct Sides {
     pub side: usize,
     pub mixed: usize,

@@ -1,5 +1,7 @@
 // What the program `slots` prints for a ticket. Document 02, L10: the least slots; L5: the stop, which "is N". Document 01: "A refusal prints
 // `refused`, a space and the number. Every line ends in a line feed."
+#![tactic(auto)]
+
 ghost use Rattle.std.specs.Prelude.{◌≡◌, ◌≤◌, length};
 ghost use Rattle.bits.specs.Bits.{laid};
 ghost use Rattle.texts.specs.Texts.{Put};

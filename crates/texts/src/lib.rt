@@ -1,5 +1,7 @@
 // Texts put one after another into a lent slice, as the programs print them. Each is written into `out` from the byte `at` on, as far as `out`
 // reaches, and the place after it is given. Document 01: "A refusal prints `refused`, a space and the number. Every line ends in a line feed."
+#![tactic(auto)]
+
 ghost use Rattle.std.specs.Prelude.{[], ◌∷◌, ◌≤◌, ◌<◌, length};
 ghost use Rattle.model.specs.Text.{decimal};
 ghost use Rattle.texts.specs.Texts.{Put, line_end, refusal_line};

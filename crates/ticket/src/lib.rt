@@ -1,4 +1,6 @@
 // A ticket's bytes read, field by field, into a job by value; the number of a stop.
+#![tactic(auto)]
+
 ghost use Rattle.std.specs.Prelude.{◌≡◌, ◌≤◌, ◌<◌, length};
 ghost use Rattle.bits.specs.Bits.{Below};
 ghost use Rattle.carried.specs.Carried.{carried_parts};
@@ -12,7 +14,7 @@ use entries::{Row, table_part};
 use job::Job;
 
 // What reading a ticket gives: 0 and its job, or the number with which the ticket is refused and an empty job.
-#[derive(Drop)]
+#[derive(Clone, Copy)]
 pub struct Ticket {
     pub number: usize,
     pub job: Job,

@@ -1,5 +1,7 @@
 // What a plan writes down: the actions of a round as bits of its sheet, the reasons for them, the fetches of each disk so far, and at the end the
 // sheet's round count.
+#![tactic(auto)]
+
 ghost use Rattle.std.specs.Prelude.{◌≡◌, ◌+◌, ◌*◌, ◌/◌, ◌≤◌, ◌<◌, length, get_or};
 ghost use Rattle.bits.specs.Bits.{Below};
 ghost use Rattle.bits.specs.Fields.{put_bits, ClearFrom, laid_at};

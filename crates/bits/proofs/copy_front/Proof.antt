@@ -9,31 +9,31 @@ use Rattle.bits.proofs.Fields.{over_none, over_more}
 use Rattle.bits.proofs.copy_front.Statement.{statement}
 use Rattle.bits.proofs.copy_front.Tie as tie
 
-abbrev invariant-loop : tie.invariant-loop
-invariant-loop src n dst₀ i₀ dst i = (i ≤ n) × (length dst ≡ length dst₀) × (dst ≡ over (take i src) dst₀)
+abbrev invariant-loop-i : tie.invariant-loop-i
+invariant-loop-i src n dst₀ i₀ dst i = (i ≤ n) × (length dst ≡ length dst₀) × (dst ≡ over (take i src) dst₀)
 
-abbrev decreases-loop : tie.decreases-loop
-decreases-loop src n dst₀ i₀ dst i = n - i
+abbrev decreases-loop-i : tie.decreases-loop-i
+decreases-loop-i src n dst₀ i₀ dst i = n - i
 
-loop-holds : tie.Need-loop-init invariant-loop decreases-loop
+loop-holds : tie.Need-loop-i-init invariant-loop-i decreases-loop-i
 loop-holds c = (omega arith, refl, sym (over_none c.args.src.now c.args.dst.now))
 
-shared-slice-read-dst : tie.Need-shared-slice-read-dst invariant-loop decreases-loop
+shared-slice-read-dst : tie.Need-bounds-src-i invariant-loop-i decreases-loop-i
 shared-slice-read-dst c = omega arith
 
-slice-write-dst : tie.Need-slice-write-dst invariant-loop decreases-loop
+slice-write-dst : tie.Need-bounds-dst-i invariant-loop-i decreases-loop-i
 slice-write-dst c = omega arith
 
-add-i : tie.Need-overflow-add-i invariant-loop decreases-loop
+add-i : tie.Need-overflow_add-i invariant-loop-i decreases-loop-i
 add-i c = omega arith
 
-loop-less : tie.Need-loop-smaller invariant-loop decreases-loop
+loop-less : tie.Need-loop-i-smaller invariant-loop-i decreases-loop-i
 loop-less c = omega arith
 
-loop-again : tie.Need-loop-preserved invariant-loop decreases-loop
+loop-again : tie.Need-loop-i-preserved invariant-loop-i decreases-loop-i
 loop-again c =
     let args = c.before.before.before.args in
-    let now-loop = c.before.before.loop in
+    let now-loop = c.before.before.loop-i in
     let src = args.src.now in
     let dst = args.dst.now in
     let i = now-loop.i in
@@ -43,21 +43,21 @@ loop-again c =
       ap (λ (l : List ℕ). set l i byte) now-loop.invariant.2 ∙ over_more i src dst (omega arith) (omega arith),
     )
 
-same_length : tie.Need-same-length invariant-loop decreases-loop
-same_length c = c.before.loop.invariant.1
+same_length : tie.Need-shape_of-dst invariant-loop-i decreases-loop-i
+same_length c = c.before.loop-i.invariant.1
 
-returns : tie.Need-returns invariant-loop decreases-loop
+returns : tie.Need-returns invariant-loop-i decreases-loop-i
 returns c =
     let args = c.before.before.args in
-    let e : c.before.loop.i ≡ args.n = omega arith in
-    c.before.loop.invariant.2 ∙ ap (λ (k : ℕ). over (take k args.src.now) args.dst.now) e
+    let e : c.before.loop-i.i ≡ args.n = omega arith in
+    c.before.loop-i.invariant.2 ∙ ap (λ (k : ℕ). over (take k args.src.now) args.dst.now) e
 
-pub copy-front-spec : {M : Type 1} → statement M
-copy-front-spec =
+pub copy_front_spec : {M : Type 1} → statement M
+copy_front_spec =
     tie.close
     (tie.spec
-    invariant-loop
-    decreases-loop
+    invariant-loop-i
+    decreases-loop-i
     loop-holds
     shared-slice-read-dst
     slice-write-dst

@@ -17,62 +17,62 @@ stored c =
 word : (c : tie.Start) → word_of c.args.at c.args.width c.args.value % 2 ^ 64 ≡ word_of c.args.at c.args.width c.args.value
 word c = word_shifted c.args.at c.args.width c.args.value c.requires.0 c.requires.1.0
 
-sub_word : tie.Need-overflow-sub-word
+sub_word : tie.Need-overflow_sub-word
 sub_word c = search rules
 
-sub-word-2 : tie.Need-overflow-sub-word-2
+sub-word-2 : tie.Need-overflow_sub-word-2
 sub-word-2 c = search rules
 
-shl-word : tie.Need-overflow-shl-word
+shl-word : tie.Need-overflow_shl-word
 shl-word c = search rules
 
-slice-read-buf : tie.Need-slice-read-buf
+slice-read-buf : tie.Need-bounds-buf-i
 slice-read-buf c = search rules
 
-cast-buf : tie.Need-overflow-cast-buf
-cast-buf c = omega (arith, c.slice-known.given (c.before.args.at / 8))
+cast-buf : tie.Need-overflow_cast-buf
+cast-buf c = omega (arith, c.slice_known-1.given (c.before.args.at / 8))
 
-add-buf : tie.Need-overflow-add-buf
+add-buf : tie.Need-overflow_add-buf
 add-buf c =
     let fits = (stored c.before).fits in
     rw (word c.before) (omega arith)
 
-cast-buf-2 : tie.Need-overflow-cast-buf-2
+cast-buf-2 : tie.Need-overflow_cast-buf-2
 cast-buf-2 c =
     let fits = (stored c.before).fits in
     rw (word c.before) (omega arith)
 
-slice-write-buf : tie.Need-slice-write-buf
+slice-write-buf : tie.Need-bounds-buf-i-2
 slice-write-buf c = search rules
 
-cast-buf-3 : tie.Need-overflow-cast-buf-3
+cast-buf-3 : tie.Need-overflow_cast-buf-3
 cast-buf-3 c = search rules
 
-add-buf-2 : tie.Need-overflow-add-buf-2
+add-buf-2 : tie.Need-overflow_add-buf-2
 add-buf-2 c = search rules
 
-slice-write-buf-2 : tie.Need-slice-write-buf-2
+slice-write-buf-2 : tie.Need-bounds-buf-i-3
 slice-write-buf-2 c = simp length-set (omega arith)
 
-cast-buf-4 : tie.Need-overflow-cast-buf-4
+cast-buf-4 : tie.Need-overflow_cast-buf-4
 cast-buf-4 c = search rules
 
-add-buf-3 : tie.Need-overflow-add-buf-3
+add-buf-3 : tie.Need-overflow_add-buf-3
 add-buf-3 c = search rules
 
-slice-write-buf-3 : tie.Need-slice-write-buf-3
+slice-write-buf-3 : tie.Need-bounds-buf-i-4
 slice-write-buf-3 c = simp length-set (omega arith)
 
-cast-buf-5 : tie.Need-overflow-cast-buf-5
+cast-buf-5 : tie.Need-overflow_cast-buf-5
 cast-buf-5 c = search rules
 
-add-buf-4 : tie.Need-overflow-add-buf-4
+add-buf-4 : tie.Need-overflow_add-buf-4
 add-buf-4 c = search rules
 
-slice-write-buf-4 : tie.Need-slice-write-buf-4
+slice-write-buf-4 : tie.Need-bounds-buf-i-5
 slice-write-buf-4 c = simp length-set (omega arith)
 
-same_length : tie.Need-same-length
+same_length : tie.Need-shape_of-buf
 same_length c = search rules
 
 returns : tie.Need-returns

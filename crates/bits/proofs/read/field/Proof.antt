@@ -10,49 +10,49 @@ use Rattle.bits.proofs.Window.{one_shifted, window_shows}
 use Rattle.bits.proofs.read.field.Statement.{statement}
 use Rattle.bits.proofs.read.field.Tie as tie
 
-add-if1 : tie.Need-overflow-add-if1
+add-if1 : tie.Need-overflow_add-at
 add-if1 c = search rules
 
-add-if1-2 : tie.Need-overflow-add-if1-2
+add-if1-2 : tie.Need-overflow_add-at-2
 add-if1-2 c = search rules
 
-window-requires : tie.Need-window-requires
+window-requires : tie.Need-window-shown-requires
 window-requires c κs = search rules
 
-sub-t12 : tie.Need-overflow-sub-t12
+sub-t12 : tie.Need-overflow_sub-result
 sub-t12 c = search rules
 
-sub-t13 : tie.Need-overflow-sub-t13
+sub-t13 : tie.Need-overflow_sub-result-then-at-width
 sub-t13 c = search rules
 
-shr-t14 : tie.Need-overflow-shr-t14
+shr-t14 : tie.Need-overflow_shr-result
 shr-t14 c = search rules
 
-shl-t15 : tie.Need-overflow-shl-t15
+shl-t15 : tie.Need-overflow_shl-result
 shl-t15 c = search rules
 
-rem-t16 : tie.Need-nonzero-rem-t16
+rem-t16 : tie.Need-nonzero_rem-result-then-at-width
 rem-t16 c =
     let w = c.before.before.before.args.width in
     rw (one_shifted w (omega arith)) (pow_pos w)
 
-returns : tie.Need-returns
+returns : tie.Need-returns-then-at-width
 unfolding field_at
 returns c =
     let args = c.before.before.before.args in
     let s = args.s.now in
     let at = args.at in
     let w = args.width in
-    rw (c.window.ensures, one_shifted w (omega arith), window_shows w at s (omega arith), le-leb (at + w) (length s * 8) (omega arith))
+    rw (c.window-shown.ensures, one_shifted w (omega arith), window_shows w at s (omega arith), le-leb (at + w) (length s * 8) (omega arith))
 
-returns-2 : tie.Need-returns-2
+returns-2 : tie.Need-returns-else-at-width
 unfolding field_at
 returns-2 c =
     let args = c.before.before.args in
     rw (lt-leb (args.at + args.width) (length args.s.now * 8) (omega arith))
 
-pub field-spec : {M : Type 1} → statement M
-field-spec =
+pub field_spec : {M : Type 1} → statement M
+field_spec =
     tie.close
     (tie.spec
     add-if1

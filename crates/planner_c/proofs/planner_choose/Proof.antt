@@ -1,8 +1,8 @@
--- `planner::planner_choose` meets its contract. Assumes nothing.
+-- `planner_c::planner_choose` meets its contract. Assumes nothing.
 use borrow.Author.Rules.{rules}
 use Rattle.counts.proofs.Written.{choice_small, choice_wrote}
-use Rattle.planner.proofs.planner_choose.Statement.{statement}
-use Rattle.planner.proofs.planner_choose.Tie as tie
+use Rattle.planner_c.proofs.planner_choose.Statement.{statement}
+use Rattle.planner_c.proofs.planner_choose.Tie as tie
 
 choose-requires : tie.Need-choose-requires
 choose-requires c κs = search rules

@@ -1,9 +1,9 @@
--- `planner::planner_check` meets its contract. Assumes nothing.
+-- `planner_c::planner_check` meets its contract. Assumes nothing.
 use borrow.Author.Rules.{rules}
 use Rattle.counts.proofs.Written.{check_small, check_wrote}
 use Rattle.planner.proofs.Laws.{check_promised, check_values}
-use Rattle.planner.proofs.planner_check.Statement.{statement}
-use Rattle.planner.proofs.planner_check.Tie as tie
+use Rattle.planner_c.proofs.planner_check.Statement.{statement}
+use Rattle.planner_c.proofs.planner_check.Tie as tie
 
 check-requires : tie.Need-check-requires
 check-requires c κs = search rules

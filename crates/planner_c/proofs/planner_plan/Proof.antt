@@ -1,8 +1,8 @@
--- `planner::planner_plan` meets its contract. Assumes nothing.
+-- `planner_c::planner_plan` meets its contract. Assumes nothing.
 use borrow.Author.Rules.{rules}
 use Rattle.counts.proofs.Written.{plan_small, plan_wrote}
-use Rattle.planner.proofs.planner_plan.Statement.{statement}
-use Rattle.planner.proofs.planner_plan.Tie as tie
+use Rattle.planner_c.proofs.planner_plan.Statement.{statement}
+use Rattle.planner_c.proofs.planner_plan.Tie as tie
 
 plan-requires : tie.Need-plan-requires
 plan-requires c κs = search rules
