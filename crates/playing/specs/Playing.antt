@@ -1,6 +1,6 @@
 -- What each method of the playing state gives, and which state of the model it is. Document 01, "Playing a round": "Playing takes the state of
 -- the buffers and gives back the next." Document 02, L9: the state before round 1. Assumes nothing.
-use Rattle.std.specs.Prelude.{◌≡◌, true, false, List, ℕ, suc, ◌+◌, ◌-◌, ◌*◌, ◌<◌, length, get_or, set, take, drop}
+use Rattle.std.specs.Prelude.{◌≡◌, true, false, List, ℕ, suc, ◌+◌, ◌-◌, ◌<◌, length, get_or, set, take, drop}
 use Rattle.model.specs.Job.{Job, disk_count}
 use Rattle.model.specs.Playing.{Action, State, none_resident, load, act, consumed, marked_all}
 use Rattle.model.specs.Plans.{each}

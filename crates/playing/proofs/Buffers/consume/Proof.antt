@@ -5,12 +5,12 @@ use Rattle.playing.specs.Playing.{consume_one}
 use Rattle.playing.proofs.Buffers.consume.Statement.{statement}
 use Rattle.playing.proofs.Buffers.consume.Tie as tie
 
-add-self : tie.Need-overflow-add-self
+add-self : tie.Need-overflow_add-self
 add-self c = search rules
 
 returns : tie.Need-returns
 unfolding consume_one
 returns c = refl
 
-pub consume-spec : {M : Type 1} → statement M
-consume-spec = tie.close (tie.spec add-self returns)
+pub consume_spec : {M : Type 1} → statement M
+consume_spec = tie.close (tie.spec add-self returns)

@@ -5,16 +5,16 @@ use Rattle.playing.specs.Playing.{fetch_into}
 use Rattle.playing.proofs.Buffers.fetch.Statement.{statement}
 use Rattle.playing.proofs.Buffers.fetch.Tie as tie
 
-element-write-self : tie.Need-element-write-self
+element-write-self : tie.Need-bounds-self-block
 element-write-self c = search rules
 
-element-copy-out-self : tie.Need-element-copy-out-self
+element-copy-out-self : tie.Need-bounds-self-disk
 element-copy-out-self c = search rules
 
-add-self : tie.Need-overflow-add-self
+add-self : tie.Need-overflow_add-self
 add-self c = search rules
 
-element-write-self-2 : tie.Need-element-write-self-2
+element-write-self-2 : tie.Need-bounds-self-disk-2
 element-write-self-2 c = search rules
 
 returns : tie.Need-returns
