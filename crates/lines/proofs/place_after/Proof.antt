@@ -5,14 +5,14 @@ use Rattle.lines.proofs.Laws.{place-round, place_disk}
 use Rattle.lines.proofs.place_after.Statement.{statement}
 use Rattle.lines.proofs.place_after.Tie as tie
 
-pub place-after-spec : {M : Type 1} → statement M
-place-after-spec =
+pub place_after_spec : {M : Type 1} → statement M
+place_after_spec =
     tie.close
     (tie.spec
     (λ c. search rules)
     (λ c. search rules)
     (λ c. search rules)
-    (λ c. let a = c.before.before.before.before.args in sym (place-round a.place a.next a.disks c.before.before.if1.true))
+    (λ c. let a = c.before.before.before.before.args in sym (place-round a.place a.next a.disks c.before.before.if-place-disks.true))
     (λ c. search rules)
     (λ c. search rules)
-    (λ c. let a = c.before.before.before.before.args in sym (place_disk a.place a.next a.disks c.before.before.if1.false)))
+    (λ c. let a = c.before.before.before.before.args in sym (place_disk a.place a.next a.disks c.before.before.if-place-disks.false)))
