@@ -6,17 +6,15 @@ use lib.Seq.{take_all}
 use borrow.Author.Rules.{rules}
 use Rattle.returning.proofs.front.Statement.{statement}
 use Rattle.returning.proofs.front.Tie as tie
-use Rattle.returning.proofs.front.Reads as reads
-use Rattle.returning.proofs.front.Lts as lts
 
-slice-aggregate-result : tie.Need-slice-aggregate-result
-slice-aggregate-result c = let t = c.before.if1.true in let l = length-take c.before.before.args.n c.before.before.args.lent.now in omega (arith, t, l)
+slice-aggregate-result : tie.Need-slice_bounds-result-end
+slice-aggregate-result c = let t = c.if-n-lent.true in let l = length-take c.before.args.n c.before.args.lent.now in omega (arith, t, l)
 
-returns : tie.Need-returns
+returns : tie.Need-returns-then-n-lent
 returns c = search rules
 
-returns-2 : tie.Need-returns-2
-returns-2 c = let l = c.if1.false in (sym (take_all c.before.args.n c.before.args.lent.now (omega (arith, l))), refl)
+returns-2 : tie.Need-returns
+returns-2 c = let l = c.if-n-lent.false in (sym (take_all c.before.args.n c.before.args.lent.now (omega (arith, l))), refl)
 
-pub front-spec : {M : Type 1} → statement M
-front-spec = tie.close (tie.spec slice-aggregate-result returns returns-2)
+pub front_spec : {M : Type 1} → statement M
+front_spec = tie.close (tie.spec slice-aggregate-result returns returns-2)

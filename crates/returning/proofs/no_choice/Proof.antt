@@ -4,12 +4,10 @@ use Rattle.model.specs.Calls.{returned_choice}
 use Rattle.returning.specs.Returning.{chosen_as}
 use Rattle.returning.proofs.no_choice.Statement.{statement}
 use Rattle.returning.proofs.no_choice.Tie as tie
-use Rattle.returning.proofs.no_choice.Reads as reads
-use Rattle.returning.proofs.no_choice.Lts as lts
 
 returns : tie.Need-returns
 unfolding chosen_as returned_choice
 returns c = refl
 
-pub no-choice-spec : {M : Type 1} → statement M
-no-choice-spec = tie.close (tie.spec returns)
+pub no_choice_spec : {M : Type 1} → statement M
+no_choice_spec = tie.close (tie.spec returns)

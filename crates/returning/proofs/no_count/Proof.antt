@@ -9,5 +9,5 @@ returns : tie.Need-returns
 unfolding least_as returned_slots
 returns c = refl
 
-pub no-count-spec : {M : Type 1} → statement M
-no-count-spec = tie.close (tie.spec returns)
+pub no_count_spec : {M : Type 1} → statement M
+no_count_spec = tie.close (tie.spec returns)

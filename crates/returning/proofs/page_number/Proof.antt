@@ -7,19 +7,19 @@ use Rattle.returning.specs.Returning.{page_number}
 use Rattle.returning.proofs.page_number.Statement.{statement}
 use Rattle.returning.proofs.page_number.Tie as tie
 
-returns : tie.Need-returns
+returns : tie.Need-returns-then-page-n
 unfolding page_number
 returns c =
     let a = c.before.before.args in
-    rw (and_true (eq-eqb a.number 0 c.before.if1.true) (lt-ltb a.page a.n c.if2.true)) refl
+    rw (and_true (eq-eqb a.number 0 c.before.if-number-eq0.true) (lt-ltb a.page a.n c.if-page-n.true)) refl
 
-returns-2 : tie.Need-returns-2
+returns-2 : tie.Need-returns-else-page-n
 unfolding page_number
-returns-2 c = let a = c.before.before.args in rw (and_false_right (eqb a.number 0) (le-ltb a.page a.n c.if2.false)) refl
+returns-2 c = let a = c.before.before.args in rw (and_false_right (eqb a.number 0) (le-ltb a.page a.n c.if-page-n.false)) refl
 
-returns-3 : tie.Need-returns-3
+returns-3 : tie.Need-returns-else-number-eq0
 unfolding page_number
-returns-3 c = let a = c.before.args in rw (and_false_left (ltb a.page a.n) (ne_eqb a.number 0 c.if1.false)) refl
+returns-3 c = let a = c.before.args in rw (and_false_left (ltb a.page a.n) (ne_eqb a.number 0 c.if-number-eq0.false)) refl
 
-pub page-number-spec : {M : Type 1} → statement M
-page-number-spec = tie.close (tie.spec returns returns-2 returns-3)
+pub page_number_spec : {M : Type 1} → statement M
+page_number_spec = tie.close (tie.spec returns returns-2 returns-3)

@@ -14,5 +14,5 @@ returns : tie.Need-returns
 unfolding planned_page_as plan_given page_length
 returns c = ap (λ (p : Planned). record { planned = p; length = 0 }) c.refusal.ensures
 
-pub page-refusal-spec : {M : Type 1} → statement M
-page-refusal-spec = tie.close (tie.spec refusal-requires returns)
+pub page_refusal_spec : {M : Type 1} → statement M
+page_refusal_spec = tie.close (tie.spec refusal-requires returns)

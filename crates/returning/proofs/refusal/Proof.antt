@@ -4,12 +4,10 @@ use Rattle.model.specs.Calls.{returned}
 use Rattle.returning.specs.Returning.{planned_as}
 use Rattle.returning.proofs.refusal.Statement.{statement}
 use Rattle.returning.proofs.refusal.Tie as tie
-use Rattle.returning.proofs.refusal.Reads as reads
-use Rattle.returning.proofs.refusal.Lts as lts
 
 returns : tie.Need-returns
 unfolding planned_as returned
 returns c = refl
 
-pub refusal-spec : {M : Type 1} → statement M
-refusal-spec = tie.close (tie.spec returns)
+pub refusal_spec : {M : Type 1} → statement M
+refusal_spec = tie.close (tie.spec returns)

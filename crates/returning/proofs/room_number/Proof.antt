@@ -5,28 +5,26 @@ use borrow.Author.Tests.{lt-ltb, le-ltb}
 use Rattle.returning.specs.Returning.{room_number}
 use Rattle.returning.proofs.room_number.Statement.{statement}
 use Rattle.returning.proofs.room_number.Tie as tie
-use Rattle.returning.proofs.room_number.Reads as reads
-use Rattle.returning.proofs.room_number.Lts as lts
 
-returns : tie.Need-returns
+returns : tie.Need-returns-then-short-m
 unfolding room_number
-returns c = let e = c.before.args in let small = c.if1.true in rw (lt-ltb e.short e.m (omega (arith, small))) refl
+returns c = let e = c.before.args in let small = c.if-short-m.true in rw (lt-ltb e.short e.m (omega (arith, small))) refl
 
-returns-2 : tie.Need-returns-2
+returns-2 : tie.Need-returns-then-sparing-n
 unfolding room_number
 returns-2 c =
     let e = c.before.before.args in
-    let fits = c.before.if1.false in
-    let small = c.if2.true in
+    let fits = c.before.if-short-m.false in
+    let small = c.if-sparing-n.true in
     rw (le-ltb e.short e.m (omega (arith, fits)), lt-ltb e.sparing e.n (omega (arith, small))) refl
 
-returns-3 : tie.Need-returns-3
+returns-3 : tie.Need-returns
 unfolding room_number
 returns-3 c =
     let e = c.before.before.args in
-    let fits = c.before.if1.false in
-    let both = c.if2.false in
+    let fits = c.before.if-short-m.false in
+    let both = c.if-sparing-n.false in
     rw (le-ltb e.short e.m (omega (arith, fits)), le-ltb e.sparing e.n (omega (arith, both))) refl
 
-pub room-number-spec : {M : Type 1} → statement M
-room-number-spec = tie.close (tie.spec returns returns-2 returns-3)
+pub room_number_spec : {M : Type 1} → statement M
+room_number_spec = tie.close (tie.spec returns returns-2 returns-3)

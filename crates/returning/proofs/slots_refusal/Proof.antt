@@ -9,5 +9,5 @@ returns : tie.Need-returns
 unfolding least_as returned_slots
 returns c = refl
 
-pub slots-refusal-spec : {M : Type 1} → statement M
-slots-refusal-spec = tie.close (tie.spec returns)
+pub slots_refusal_spec : {M : Type 1} → statement M
+slots_refusal_spec = tie.close (tie.spec returns)

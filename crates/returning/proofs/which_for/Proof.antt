@@ -5,22 +5,20 @@ use borrow.Author.Tests.{le-leb, lt-leb}
 use Rattle.model.specs.Calls.{which_for}
 use Rattle.returning.proofs.which_for.Statement.{statement}
 use Rattle.returning.proofs.which_for.Tie as tie
-use Rattle.returning.proofs.which_for.Reads as reads
-use Rattle.returning.proofs.which_for.Lts as lts
 
-returns : tie.Need-returns
+returns : tie.Need-returns-then-second-first
 unfolding which_for
 returns c =
     let e = c.before.args in
-    let test = c.if1.true in
+    let test = c.if-second-first.true in
     rw (le-leb e.second e.first (omega (arith, test))) refl
 
-returns-2 : tie.Need-returns-2
+returns-2 : tie.Need-returns
 unfolding which_for
 returns-2 c =
     let e = c.before.args in
-    let test = c.if1.false in
+    let test = c.if-second-first.false in
     rw (lt-leb e.second e.first (omega (arith, test))) refl
 
-pub which-for-spec : {M : Type 1} → statement M
-which-for-spec = tie.close (tie.spec returns returns-2)
+pub which_for_spec : {M : Type 1} → statement M
+which_for_spec = tie.close (tie.spec returns returns-2)
