@@ -40,9 +40,9 @@ outer_text (b ∷ o) = outer_text o ++ (before_text b ++ 40 ∷ [])
 unfoldable pub so_far : State → List ℕ
 so_far s = outer_text s.outer ++ mode_text s.mode
 
-before_text : (b : Before) → before_text b ≡ sides_text b.sides ++ items_text b.items
+before_text_is : (b : Before) → before_text b ≡ sides_text b.sides ++ items_text b.items
 unfolding before_text
-before_text b = refl
+before_text_is b = refl
 
 before_nothing : before_text nothing ≡ []
 unfolding before_text sides_text items_text
@@ -105,7 +105,7 @@ step_text {c} (counts {b = b} {o = o} {p = p} {d = d} g h) = in_mode o (star b p
 step_text {c} (count_on {b = b} {o = o} {p = p} {k = k} {d = d} g h q) =
     in_mode o (read b (times p k)) _ refl (read b (times p (k * 10 + d))) c (simp (times-text, longer-text k g h, append_assoc))
 step_text {c} (closes {b = b} {x = x} {o = o} {i = i} e) = rw e (close_text b x o i)
-step_text {c} (spaces {b = b} {o = o} {i = i} e) = in_mode o (read b i) _ refl (space b.sides (side_with b.items i)) c (simp (e, before_text, side_with_text, append_assoc))
+step_text {c} (spaces {b = b} {o = o} {i = i} e) = in_mode o (read b i) _ refl (space b.sides (side_with b.items i)) c (simp (e, before_text_is, side_with_text, append_assoc))
 step_text {c} (bars {n = n} {s = s} {o = o} e) = in_mode o (space n s) _ refl (bar (mixed_with n s)) c (simp (e, mixed_with_text, append_assoc))
 step_text {c} (mixes {n = n} {o = o} e) = in_mode o (bar n) _ refl (begin (record { sides = some n; items = none })) c (simp (e, before_sides, append_assoc))
 

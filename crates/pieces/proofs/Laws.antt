@@ -2,7 +2,6 @@
 use mathlib.Core.Path.{◌≡◌, refl, sym, ◌∙◌}
 use mathlib.Core.Bool.{Bool, true, false, true≢false, ◌&&◌}
 use mathlib.Core.List.{List, [], ◌∷◌}
-use Prim.Native.Char.{code}
 use Prim.Native.Nat.{ℕ, zero, suc, ◌+◌, ◌-◌, ◌*◌, ◌≤◌, ◌<◌}
 use native.Mathlib.Omega.{arith}
 use lib.Dec.{ltb, leb}
@@ -126,14 +125,14 @@ pub digits-within : (most v at : ℕ) (l : List ℕ) → v ≤ most → (digits_
 digits-within most v at [] h = rw (digits_end most v at) h
 digits-within most v at (c ∷ l) h =
     by_test (goes_on most v c)
-    (λ e. rw (digits_more most v at c l e) (digits-within most _ (suc at) l (goes most v c e).within))
+    (λ e. rw (digits_more most v at c l e) (digits-within most (v * 10 + digit c) (suc at) l (goes most v c e).within))
     (λ e. rw (digits-stop most v at c l e) h)
 
 pub digits-some : (most v at : ℕ) (l : List ℕ) → 1 ≤ v → 1 ≤ (digits_from most v at l).value
 digits-some most v at [] h = rw (digits_end most v at) h
 digits-some most v at (c ∷ l) h =
     by_test (goes_on most v c)
-    (λ e. rw (digits_more most v at c l e) (digits-some most _ (suc at) l (omega arith)))
+    (λ e. rw (digits_more most v at c l e) (digits-some most (v * 10 + digit c) (suc at) l (omega arith)))
     (λ e. rw (digits-stop most v at c l e) h)
 
 pub digits-place : (most v at : ℕ) (l : List ℕ) → (at ≤ (digits_from most v at l).at) × ((digits_from most v at l).at ≤ at + length l)

@@ -8,29 +8,29 @@ use Rattle.mixing.proofs.Laws.{Begins, begins_more, begins_all}
 use Rattle.mixing.proofs.copy.Statement.{statement}
 use Rattle.mixing.proofs.copy.Tie as tie
 
-abbrev invariant-loop : tie.invariant-loop
-invariant-loop from to₀ i₀ to i = Begins from i to
+abbrev invariant-loop-i : tie.invariant-loop-i
+invariant-loop-i from to₀ i₀ to i = Begins from i to
 
-abbrev decreases-loop : tie.decreases-loop
-decreases-loop from to₀ i₀ to i = length from - i
+abbrev decreases-loop-i : tie.decreases-loop-i
+decreases-loop-i from to₀ i₀ to i = length from - i
 
-loop-holds : tie.Need-loop-init invariant-loop decreases-loop
+loop-holds : tie.Need-loop-i-init invariant-loop-i decreases-loop-i
 loop-holds c = record { within = omega arith; long = sym c.requires; same = refl }
 
-loop-again : tie.Need-loop-preserved invariant-loop decreases-loop
+loop-again : tie.Need-loop-i-preserved invariant-loop-i decreases-loop-i
 loop-again c =
-    let l = c.before.before.loop in
+    let l = c.before.before.loop-i in
     begins_more c.before.before.before.args.from.now l.to l.i _ l.invariant (omega arith) refl
 
-returns : tie.Need-returns invariant-loop decreases-loop
-returns c = begins_all c.before.before.args.from.now c.before.loop.to c.before.loop.i c.before.loop.invariant (omega arith)
+returns : tie.Need-returns invariant-loop-i decreases-loop-i
+returns c = begins_all c.before.before.args.from.now c.before.loop-i.to c.before.loop-i.i c.before.loop-i.invariant (omega arith)
 
 pub copy_spec : {M : Type 1} → statement M
 copy_spec =
     tie.close
     (tie.spec
-    invariant-loop
-    decreases-loop
+    invariant-loop-i
+    decreases-loop-i
     loop-holds
     (λ c. omega arith)
     (λ c. omega arith)

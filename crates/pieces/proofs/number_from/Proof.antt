@@ -10,64 +10,64 @@ use Rattle.pieces.proofs.Laws.{char_at, drop_past, Goes, goes, digits_more, digi
 use Rattle.pieces.proofs.number_from.Statement.{statement}
 use Rattle.pieces.proofs.number_from.Tie as tie
 
-abbrev invariant-loop : tie.invariant-loop
-invariant-loop text at first most value₀ next₀ value next =
+abbrev invariant-loop-next : tie.invariant-loop-next
+invariant-loop-next text at first most value₀ next₀ value next =
     (next ≤ length text) × (value ≤ most) × (most ≤ 2048) × (digits_from most first at (drop at text) ≡ digits_from most value next (drop next text))
 
-abbrev decreases-loop : tie.decreases-loop
-decreases-loop text at first most value₀ next₀ value next = length text - next
+abbrev decreases-loop-next : tie.decreases-loop-next
+decreases-loop-next text at first most value₀ next₀ value next = length text - next
 
-loop-holds : tie.Need-loop-init invariant-loop decreases-loop
+loop-holds : tie.Need-loop-next-init invariant-loop-next decreases-loop-next
 loop-holds c = (c.before.requires.0, c.before.requires.1.0, c.before.requires.1.1, refl)
 
-shared-slice-read-c : tie.Need-shared-slice-read-c invariant-loop decreases-loop
+shared-slice-read-c : tie.Need-bounds-text-next invariant-loop-next decreases-loop-next
 shared-slice-read-c c = search rules
 
-goes-on-requires : tie.Need-goes-on-requires invariant-loop decreases-loop
+goes-on-requires : tie.Need-goes_on-requires invariant-loop-next decreases-loop-next
 goes-on-requires c κs = omega arith
 
-returns : tie.Need-returns invariant-loop decreases-loop
+returns : tie.Need-returns-else-goes_on invariant-loop-next decreases-loop-next
 returns c =
-    let l = c.before.before.before.before.loop in
-    let h = c.before.before.before.loop-test.true in
-    sym (l.invariant.3 ∙ rw (char_at _ _ h) (digits-stop _ _ _ _ _ (sym c.before.goes_on_lem.ensures ∙ c.if1.false)))
+    let l = c.before.before.before.before.loop-next in
+    let h = c.before.before.before.loop-next-test.true in
+    sym (l.invariant.3 ∙ rw (char_at _ _ h) (digits-stop _ _ _ _ _ (sym c.before.goes_on.ensures ∙ c.if-goes_on.false)))
 
-goes-here : (c : tie.Then1 invariant-loop decreases-loop) → let l = c.before.before.before.before in Goes l.before.before.args.most l.loop.value (get_or l.before.before.args.text.now l.loop.next 0)
-goes-here c = goes _ _ _ (sym c.before.goes_on_lem.ensures ∙ c.if1.true)
+goes-here : (c : tie.Then-goes_on invariant-loop-next decreases-loop-next) → let l = c.before.before.before.before in Goes l.before.before.args.most l.loop-next.value (get_or l.before.before.args.text.now l.loop-next.next 0)
+goes-here c = goes _ _ _ (sym c.before.goes_on.ensures ∙ c.if-goes_on.true)
 
-mul-value : tie.Need-overflow-mul-value invariant-loop decreases-loop
+mul-value : tie.Need-overflow_mul-value invariant-loop-next decreases-loop-next
 mul-value c = omega arith
 
-sub-value : tie.Need-overflow-sub-value invariant-loop decreases-loop
+sub-value : tie.Need-overflow_sub-value invariant-loop-next decreases-loop-next
 sub-value c = (goes-here c).low
 
-cast-value : tie.Need-overflow-cast-value invariant-loop decreases-loop
+cast-value : tie.Need-overflow_cast-value invariant-loop-next decreases-loop-next
 cast-value c = let g = goes-here c in omega arith
 
-add-value : tie.Need-overflow-add-value invariant-loop decreases-loop
+add-value : tie.Need-overflow_add-value invariant-loop-next decreases-loop-next
 add-value c = let g = goes-here c in omega arith
 
-add-next : tie.Need-overflow-add-next invariant-loop decreases-loop
+add-next : tie.Need-overflow_add-next invariant-loop-next decreases-loop-next
 add-next c = omega arith
 
-loop-less : tie.Need-loop-smaller invariant-loop decreases-loop
+loop-less : tie.Need-loop-next-smaller invariant-loop-next decreases-loop-next
 loop-less c = omega arith
 
-loop-again : tie.Need-loop-preserved invariant-loop decreases-loop
+loop-again : tie.Need-loop-next-preserved invariant-loop-next decreases-loop-next
 loop-again c =
-    let l = c.before.before.before.before.loop in
-    let h = c.before.before.before.loop-test.true in
-    (omega arith, (goes-here c).within, l.invariant.2, l.invariant.3 ∙ rw (char_at _ _ h, add-one) (digits_more _ _ _ _ _ (sym c.before.goes_on_lem.ensures ∙ c.if1.true)))
+    let l = c.before.before.before.before.loop-next in
+    let h = c.before.before.before.loop-next-test.true in
+    (omega arith, (goes-here c).within, l.invariant.2, l.invariant.3 ∙ rw (char_at _ _ h, add-one) (digits_more _ _ _ _ _ (sym c.before.goes_on.ensures ∙ c.if-goes_on.true)))
 
-returns-2 : tie.Need-returns-2 invariant-loop decreases-loop
-returns-2 c = let l = c.before.loop in sym (l.invariant.3 ∙ rw (drop_past _ _ c.loop-test.false) (digits_end _ _ _))
+returns-2 : tie.Need-returns invariant-loop-next decreases-loop-next
+returns-2 c = let l = c.before.loop-next in sym (l.invariant.3 ∙ rw (drop_past _ _ c.loop-next-test.false) (digits_end _ _ _))
 
-pub number-from-spec : {M : Type 1} → statement M
-number-from-spec =
+pub number_from_spec : {M : Type 1} → statement M
+number_from_spec =
     tie.close
     (tie.spec
-    invariant-loop
-    decreases-loop
+    invariant-loop-next
+    decreases-loop-next
     loop-holds
     shared-slice-read-c
     goes-on-requires
