@@ -48,88 +48,88 @@ module _ (rule : Rule) (desk : List (List ℕ)) (look u base count place far : �
     over so = rw (← at, le-ltb far look more, ← is, so)
 
 -- the way back from the call of `last` to the start; the place that it found, the distance there, and the case that this is
-abbrev start : tie.After-last → tie.Start
+abbrev start : tie.After-last-place → tie.Start
 start c = c.before.before.before.before.before.before
 
-place-within : (c : tie.After-last) → c.last.result < 512
+place-within : (c : tie.After-last-place) → c.last-place.result < 512
 place-within c =
     let a = (start c).args in
     let within = last_within (helds a.desk.now) (nexts a.desk.now) (a.d * 64) (a.count - 1) in
-    omega (arith, within, c.last.ensures)
+    omega (arith, within, c.last-place.ensures)
 
-far-is : (c : tie.After-at3)
+far-is : (c : tie.After-at-far)
     → let desk = (start c.before.before).args.desk.now in
-    c.at3.result ≡ get_or (nexts desk) (get_or (helds desk) c.before.before.last.result 0) 0
-far-is c = c.at3.ensures ∙ ap (λ (b : ℕ). get_or (nexts (start c.before.before).args.desk.now) b 0) c.before.at2.ensures
+    c.at-far.result ≡ get_or (nexts desk) (get_or (helds desk) c.before.before.last-place.result 0) 0
+far-is c = c.at-far.ensures ∙ ap (λ (b : ℕ). get_or (nexts (start c.before.before).args.desk.now) b 0) c.before.at.ensures
 
-full-slots : (c : tie.After-last)
+full-slots : (c : tie.After-last-place)
     → let a = (start c).args in
-    let look = c.before.before.before.before.at.result in
+    let look = c.before.before.before.before.at-look.result in
     choice_from a.refs.now a.rule a.d a.count a.slots a.desk.now
-    ≡ choice_full a.rule a.desk.now look (get_or a.refs.now look 0) (a.d * 64) a.count c.last.result
+    ≡ choice_full a.rule a.desk.now look (get_or a.refs.now look 0) (a.d * 64) a.count c.last-place.result
 full-slots c =
-    let at = c.before.before.before.before.at in
-    full _ _ _ _ _ _ at.result at.ensures c.before.before.before.if1.false c.before.if2.false c.last.result c.last.ensures
+    let at = c.before.before.before.before.at-look in
+    full _ _ _ _ _ _ at.result at.ensures c.before.before.before.if-refs-look.false c.before.if-count-slots.false c.last-place.result c.last-place.ensures
 
-at-requires : tie.Need-at-requires
+at-requires : tie.Need-at-look-requires
 at-requires c κs = search rules
 
-returns : tie.Need-returns
-returns c = none _ _ _ _ _ _ c.before.at.result c.before.at.ensures c.if1.true
+returns : tie.Need-returns-then-refs-look
+returns c = none _ _ _ _ _ _ c.before.at-look.result c.before.at-look.ensures c.if-refs-look.true
 
-mul-u : tie.Need-overflow-mul-u
+mul-u : tie.Need-offset_bounds-refs-look
 mul-u c = search rules
 
-shared-slice-read-u : tie.Need-shared-slice-read-u
+shared-slice-read-u : tie.Need-bounds-refs-look
 shared-slice-read-u c = search rules
 
-cast-u : tie.Need-overflow-cast-u
-cast-u c = record { fits = omega (arith, c.shared-slice-known2.given c.before.before.at.result) }
+cast-u : tie.Need-overflow_cast-u
+cast-u c = record { fits = omega (arith, c.shared_slice_known-2-1.given c.before.before.at-look.result) }
 
-mul-base : tie.Need-overflow-mul-base
+mul-base : tie.Need-overflow_mul-base
 mul-base c = search rules
 
-add-t16 : tie.Need-overflow-add-t16
+add-t16 : tie.Need-overflow_add-result
 add-t16 c = search rules
 
-returns-2 : tie.Need-returns-2
+returns-2 : tie.Need-returns-then-count-slots
 returns-2 c =
-    let at = c.before.before.before.at in
-    into _ _ _ _ _ _ at.result at.ensures c.before.before.if1.false c.if2.true
+    let at = c.before.before.before.at-look in
+    into _ _ _ _ _ _ at.result at.ensures c.before.before.if-refs-look.false c.if-count-slots.true
 
-last-requires : tie.Need-last-requires
+last-requires : tie.Need-last-place-requires
 last-requires c κs = search rules
 
-at-requires-2 : tie.Need-at-requires-2
+at-requires-2 : tie.Need-at-requires
 at-requires-2 c κs = (omega arith, place-within c)
 
-at-requires-3 : tie.Need-at-requires-3
+at-requires-3 : tie.Need-at-far-requires
 at-requires-3 c κs =
     let e = start c.before in
-    let block = below_any 512 (helds e.args.desk.now) (lit< tt) e.pre.1.1 c.before.last.result in
-    (omega arith, omega (arith, block, c.at2.ensures))
+    let block = below_any 512 (helds e.args.desk.now) (lit< tt) e.requires.1.1 c.before.last-place.result in
+    (omega arith, omega (arith, block, c.at.ensures))
 
-returns-3 : tie.Need-returns-3
+returns-3 : tie.Need-returns-then-far-look
 returns-3 c =
-    sym (full-slots c.before.before.before ∙ sooner _ _ _ _ _ _ _ c.before.at3.result (far-is c.before) c.if3.true)
+    sym (full-slots c.before.before.before ∙ sooner _ _ _ _ _ _ _ c.before.at-far.result (far-is c.before) c.if-far-look.true)
 
 waits-requires : tie.Need-waits-requires
 waits-requires c κs = search rules
 
-returns-4 : tie.Need-returns-4
+returns-4 : tie.Need-returns-then-waits
 returns-4 c =
     let found = c.before.before.before in
     sym (full-slots found.before.before
-    ∙ idle _ _ _ _ _ _ _ found.at3.result (far-is found) c.before.before.if3.false _ c.before.waits.ensures c.if4.true)
+    ∙ idle _ _ _ _ _ _ _ found.at-far.result (far-is found) c.before.before.if-far-look.false _ c.before.waits.ensures c.if-waits.true)
 
-returns-5 : tie.Need-returns-5
+returns-5 : tie.Need-returns
 returns-5 c =
     let found = c.before.before.before in
     sym (full-slots found.before.before
-    ∙ over _ _ _ _ _ _ _ found.at3.result (far-is found) c.before.before.if3.false _ c.before.waits.ensures c.if4.false)
+    ∙ over _ _ _ _ _ _ _ found.at-far.result (far-is found) c.before.before.if-far-look.false _ c.before.waits.ensures c.if-waits.false)
 
-pub rule-choice-spec : {M : Type 1} → statement M
-rule-choice-spec =
+pub rule_choice_spec : {M : Type 1} → statement M
+rule_choice_spec =
     tie.close
     (tie.spec
     at-requires
