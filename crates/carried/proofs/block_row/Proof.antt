@@ -3,5 +3,5 @@ use mathlib.Core.Path.{refl}
 use Rattle.carried.proofs.block_row.Statement.{statement}
 use Rattle.carried.proofs.block_row.Tie as tie
 
-pub block-row-spec : {M : Type 1} → statement M
-block-row-spec = tie.close (tie.spec (λ c. refl))
+pub block_row_spec : {M : Type 1} → statement M
+block_row_spec = tie.close (tie.spec (λ c. refl))

@@ -4,5 +4,5 @@ use mathlib.Core.Path.{refl}
 use Rattle.carried.proofs.carried_row.Statement.{statement}
 use Rattle.carried.proofs.carried_row.Tie as tie
 
-pub carried-row-spec : {M : Type 1} → statement M
-carried-row-spec = tie.close (tie.spec (λ c. omega arith) (λ c. refl))
+pub carried_row_spec : {M : Type 1} → statement M
+carried_row_spec = tie.close (tie.spec (λ c. omega arith) (λ c. refl))
