@@ -8,8 +8,8 @@ use Rattle.indexing.proofs.Backward.{Done, done_start, done_back, done_end}
 use Rattle.indexing.proofs.chain.Goals as goal
 
 -- the references left are among those of the list
-within : {refs disks first again table : List ℕ} {i : ℕ} → Done (ref_disks disks refs) 512 i first again table → i ≤ length refs
-within {refs = refs} {disks = disks} h = let w = h.within in let e = ref_disks-length disks refs in omega (arith, w, e)
+within : (refs disks first again table : List ℕ) (i : ℕ) → Done (ref_disks disks refs) 512 i first again table → i ≤ length refs
+within refs disks first again table i h = let w = h.within in let e = ref_disks-length disks refs in omega (arith, w, e)
 
 -- the disk of a block is one of the 512
 known : (disks : List ℕ) → Below 8 disks → (b : ℕ) → get_or disks b 0 < 512
@@ -24,26 +24,26 @@ loop-i-init c =
     done_start (ref_disks disks refs) 512 (length refs) c.position-first.result c.args.again.now (sym l) (omega (arith, l, e))
 
 pub offset_bounds-refs-i : goal.offset_bounds-refs-i
-offset_bounds-refs-i c = let n = within c.loop-i.invariant in omega arith
+offset_bounds-refs-i c = let n = within c.args.refs.now c.args.disk_of.now _ _ _ _ c.loop-i.invariant in omega arith
 
 pub bounds-refs-i : goal.bounds-refs-i
-bounds-refs-i c = let n = within c.loop-i.invariant in omega arith
+bounds-refs-i c = let n = within c.args.refs.now c.args.disk_of.now _ _ _ _ c.loop-i.invariant in omega arith
 
 pub offset_bounds-again-i : goal.offset_bounds-again-i
-offset_bounds-again-i c = let n = within c.loop-i.invariant in omega arith
+offset_bounds-again-i c = let n = within c.args.refs.now c.args.disk_of.now _ _ _ _ c.loop-i.invariant in omega arith
 
 pub bounds-again-i : goal.bounds-again-i
-bounds-again-i c = let n = within c.loop-i.invariant in omega arith
+bounds-again-i c = let n = within c.args.refs.now c.args.disk_of.now _ _ _ _ c.loop-i.invariant in omega arith
 
 pub position-requires : goal.position-requires
-position-requires c = let n = within c.loop-i.invariant in omega arith
+position-requires c = let n = within c.args.refs.now c.args.disk_of.now _ _ _ _ c.loop-i.invariant in omega arith
 
 pub loop-i-preserved : goal.loop-i-preserved
 loop-i-preserved c =
     let l = c.loop-i in
     let refs = c.args.refs.now in
     let disks = c.args.disk_of.now in
-    let n = within l.invariant in
+    let n = within refs disks _ _ _ _ l.invariant in
     done_back (ref_disks disks refs) 512 (l.i - 1) l.i c.position.result (get_or disks (get_or refs (l.i - 1) 0) 0) l.first l.again c.args.again.now
     l.invariant (omega arith) c.position.ensures (ref_disks_at disks refs (l.i - 1) (omega arith))
     (known disks c.requires.2 (get_or refs (l.i - 1) 0))

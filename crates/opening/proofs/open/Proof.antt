@@ -7,10 +7,10 @@ use Rattle.opening.proofs.open.Statement.{statement}
 use Rattle.opening.proofs.open.Tie as tie
 
 -- the ways back: to the entry, and to where the buffers are read
-abbrev entry : tie.After-read-on → tie.Start
+abbrev entry : tie.After-read_on-b → tie.Start
 entry c = c.before.before.before.before.before.before.before.before
 
-abbrev read : tie.After-open → tie.After-read-on
+abbrev read : tie.After-open → tie.After-read_on-b
 read c = c.before.before.before.before.before
 
 carrying-requires : tie.Need-carrying-requires
@@ -18,15 +18,15 @@ carrying-requires c κs =
     let s = c.before.before.before.before.before in
     carrying_asks s.args.job s.requires.0 _ (omega arith)
 
-read-on-requires : tie.Need-read-on-requires
+read-on-requires : tie.Need-read_on-b-requires
 read-on-requires c κs =
     let s = c.before.before.before.before.before.before.before in
     reading_asks s.args.job s.requires.0 _ (omega arith)
 
-array-share-prefix-all : tie.Need-array-share-prefix-all
+array-share-prefix-all : tie.Need-slice_bounds-all-end
 array-share-prefix-all c = search rules
 
-slice-aggregate-refs : tie.Need-slice-aggregate-refs
+slice-aggregate-refs : tie.Need-slice_bounds-refs-end
 slice-aggregate-refs c = let s = entry c.before in refs_lent s.args.job s.pre.0
 
 open-requires : tie.Need-open-requires
@@ -40,7 +40,7 @@ carry-requires c κs =
     let b = read opened in
     let s = entry b in
     let first = opened.«open».ensures in
-    carry_asks s.args.job s.pre.0 _ (omega arith) (started s.args.job s.pre.0 b.before.before.carrying.ensures b.read_on.ensures)
+    carry_asks s.args.job s.pre.0 _ (omega arith) (started s.args.job s.pre.0 b.before.before.carrying.ensures b.read_on-b.ensures)
     (opened-from s.args.job s.pre.0 s.pre.1 first.0) (stepped_from s.args.job s.pre.0 s.pre.2 first.1)
 
 returns : tie.Need-returns
@@ -50,7 +50,7 @@ returns c =
     let s = entry b in
     let first = opened.«open».ensures in
     open_gives s.args.job s.pre.0
-    (started s.args.job s.pre.0 b.before.before.carrying.ensures b.read_on.ensures) (opened-from s.args.job s.pre.0 s.pre.1 first.0) (stepped_from s.args.job s.pre.0 s.pre.2 first.1) c.carry.ensures
+    (started s.args.job s.pre.0 b.before.before.carrying.ensures b.read_on-b.ensures) (opened-from s.args.job s.pre.0 s.pre.1 first.0) (stepped_from s.args.job s.pre.0 s.pre.2 first.1) c.carry.ensures
 
 pub open_spec : {M : Type 1} → statement M
 open_spec =
