@@ -5,20 +5,20 @@ use Rattle.counts.proofs.Laying.{laid-refused, laid-given}
 use Rattle.counts.proofs.lay_checked.Statement.{statement}
 use Rattle.counts.proofs.lay_checked.Tie as tie
 
-cast-result : tie.Need-overflow-cast-result
+cast-result : tie.Need-overflow_cast-result
 cast-result c = search rules
 
-returns : tie.Need-returns
-returns c = (refl, laid-refused _ _ _ c.if1.true)
+returns : tie.Need-returns-then-number-ne0
+returns c = (refl, laid-refused _ _ _ c.if-number-ne0.true)
 
-lay-counts-requires : tie.Need-lay-counts-requires
+lay-counts-requires : tie.Need-lay_counts-requires
 lay-counts-requires c κs = search rules
 
-same_length : tie.Need-same-length
+same_length : tie.Need-shape_of-counts
 same_length c = search rules
 
-returns-2 : tie.Need-returns-2
-returns-2 c = let z = c.before.before.before.before.if1.false in (sym z, c.before.before.lay-counts.ensures ∙ laid-given _ _ _ z)
+returns-2 : tie.Need-returns
+returns-2 c = let z = c.before.before.before.before.if-number-ne0.false in (sym z, c.before.before.lay_counts.ensures ∙ laid-given _ _ _ z)
 
-pub lay-checked-spec : {M : Type 1} → statement M
-lay-checked-spec = tie.close (tie.spec cast-result returns lay-counts-requires same_length returns-2)
+pub lay_checked_spec : {M : Type 1} → statement M
+lay_checked_spec = tie.close (tie.spec cast-result returns lay-counts-requires same_length returns-2)

@@ -6,13 +6,13 @@ use Rattle.counts.proofs.Laying.{laid_two, laid-refused, laid-given}
 use Rattle.counts.proofs.lay_chosen.Statement.{statement}
 use Rattle.counts.proofs.lay_chosen.Tie as tie
 
-cast-result : tie.Need-overflow-cast-result
+cast-result : tie.Need-overflow_cast-result
 cast-result c = search rules
 
-returns : tie.Need-returns
-returns c = (refl, laid-refused _ _ _ c.before.if1.true)
+returns : tie.Need-returns-then-chosen-ne0
+returns c = (refl, laid-refused _ _ _ c.before.if-chosen-ne0.true)
 
-of-which-requires : tie.Need-of-which-requires
+of-which-requires : tie.Need-of_which-requires
 of-which-requires c κs = search rules
 
 lay16-requires : tie.Need-lay16-requires
@@ -21,17 +21,17 @@ lay16-requires c κs = search rules
 lay16-requires-2 : tie.Need-lay16-requires-2
 lay16-requires-2 c κs = search rules
 
-same_length : tie.Need-same-length
+same_length : tie.Need-shape_of-counts
 same_length c = search rules
 
-returns-2 : tie.Need-returns-2
+returns-2 : tie.Need-returns
 unfolding chosen_numbers
 returns-2 c =
-    let z = c.before.before.before.before.before.before.before.before.before.if1.false in
-    (sym z, rw (c.before.before.lay162.ensures, c.before.before.before.before.before.before.lay16.ensures, c.before.before.before.before.before.before.before.of-which.ensures) (laid_two _ _ _ ∙ laid-given _ _ _ z))
+    let z = c.before.before.before.before.before.before.before.before.before.if-chosen-ne0.false in
+    (sym z, rw (c.before.before.lay16-2.ensures, c.before.before.before.before.before.before.lay16.ensures, c.before.before.before.before.before.before.before.of_which.ensures) (laid_two _ _ _ ∙ laid-given _ _ _ z))
 
-pub lay-chosen-spec : {M : Type 1} → statement M
-lay-chosen-spec =
+pub lay_chosen_spec : {M : Type 1} → statement M
+lay_chosen_spec =
     tie.close
     (tie.spec
     cast-result

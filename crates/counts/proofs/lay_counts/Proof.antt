@@ -12,65 +12,65 @@ use Rattle.counts.proofs.Laying.{laid_next, laid-counts}
 use Rattle.counts.proofs.lay_counts.Statement.{statement}
 use Rattle.counts.proofs.lay_counts.Tie as tie
 
-abbrev invariant-loop : tie.invariant-loop
-invariant-loop counts₀ from rounds fetches d₀ counts d = (d ≤ 8) × (from ≤ 11) × (counts ≡ laid_at ((from + 1) * 2) (halves (each (λ i. get_or fetches i 0) 0 d)) counts₀)
+abbrev invariant-loop-d : tie.invariant-loop-d
+invariant-loop-d counts₀ from rounds fetches d₀ counts d = (d ≤ 8) × (from ≤ 11) × (counts ≡ laid_at ((from + 1) * 2) (halves (each (λ i. get_or fetches i 0) 0 d)) counts₀)
 
-abbrev decreases-loop : tie.decreases-loop
-decreases-loop counts₀ from rounds fetches d₀ counts d = 8 - d
+abbrev decreases-loop-d : tie.decreases-loop-d
+decreases-loop-d counts₀ from rounds fetches d₀ counts d = 8 - d
 
-lay16-requires : tie.Need-lay16-requires invariant-loop decreases-loop
+lay16-requires : tie.Need-lay16-requires invariant-loop-d decreases-loop-d
 lay16-requires c κs = let p = c.before.before.requires in omega (arith, p)
 
-loop-holds : tie.Need-loop-init invariant-loop decreases-loop
+loop-holds : tie.Need-loop-d-init invariant-loop-d decreases-loop-d
 unfolding each halves
 loop-holds c = (omega arith, c.before.before.before.before.before.requires, sym (laid_at_nil _ _))
 
-add-lay16 : tie.Need-overflow-add-lay16 invariant-loop decreases-loop
-add-lay16 c = let p = c.before.before.loop.invariant.1 in omega (arith, p)
+add-lay16 : tie.Need-overflow_add-from invariant-loop-d decreases-loop-d
+add-lay16 c = let p = c.before.before.loop-d.invariant.1 in omega (arith, p)
 
-add-lay16-2 : tie.Need-overflow-add-lay16-2 invariant-loop decreases-loop
-add-lay16-2 c = let p = c.before.before.loop.invariant.1 in let q = c.before.before.loop.invariant.0 in omega (arith, p, q)
+add-lay16-2 : tie.Need-overflow_add-from-in-loop-d invariant-loop-d decreases-loop-d
+add-lay16-2 c = let p = c.before.before.loop-d.invariant.1 in let q = c.before.before.loop-d.invariant.0 in omega (arith, p, q)
 
-mul-lay16 : tie.Need-overflow-mul-lay16 invariant-loop decreases-loop
-mul-lay16 c = let q = c.before.before.loop.invariant.0 in omega (arith, q)
+mul-lay16 : tie.Need-offset_bounds-fetches-d invariant-loop-d decreases-loop-d
+mul-lay16 c = let q = c.before.before.loop-d.invariant.0 in omega (arith, q)
 
-array-read-lay16 : tie.Need-array-read-lay16 invariant-loop decreases-loop
-array-read-lay16 c = let t = c.before.loop-test.true in omega (arith, t)
+array-read-lay16 : tie.Need-bounds-fetches-d invariant-loop-d decreases-loop-d
+array-read-lay16 c = let t = c.before.loop-d-test.true in omega (arith, t)
 
-cast-lay16 : tie.Need-overflow-cast-lay16 invariant-loop decreases-loop
+cast-lay16 : tie.Need-overflow_cast-fetches invariant-loop-d decreases-loop-d
 cast-lay16 c = search rules
 
-lay16-requires-2 : tie.Need-lay16-requires-2 invariant-loop decreases-loop
-lay16-requires-2 c κs = let p = c.before.before.loop.invariant.1 in let q = c.before.before.loop.invariant.0 in omega (arith, p, q)
+lay16-requires-2 : tie.Need-lay16-requires-in-loop-d invariant-loop-d decreases-loop-d
+lay16-requires-2 c κs = let p = c.before.before.loop-d.invariant.1 in let q = c.before.before.loop-d.invariant.0 in omega (arith, p, q)
 
-add-d : tie.Need-overflow-add-d invariant-loop decreases-loop
-add-d c = let q = c.before.before.before.before.before.loop.invariant.0 in omega (arith, q)
+add-d : tie.Need-overflow_add-d invariant-loop-d decreases-loop-d
+add-d c = let q = c.before.before.before.before.before.loop-d.invariant.0 in omega (arith, q)
 
-loop-less : tie.Need-loop-smaller invariant-loop decreases-loop
-loop-less c = let t = c.before.before.before.before.loop-test.true in omega (arith, t)
+loop-less : tie.Need-loop-d-smaller invariant-loop-d decreases-loop-d
+loop-less c = let t = c.before.before.before.before.loop-d-test.true in omega (arith, t)
 
-loop-again : tie.Need-loop-preserved invariant-loop decreases-loop
+loop-again : tie.Need-loop-d-preserved invariant-loop-d decreases-loop-d
 loop-again c =
-    let l = c.before.before.before.before.before.loop in
-    let t = c.before.before.before.before.loop-test.true in
-    (omega (arith, t), l.invariant.1, c.before.before.lay162.ensures ∙ laid_next _ _ _ l.d _ _ refl l.invariant.2)
+    let l = c.before.before.before.before.before.loop-d in
+    let t = c.before.before.before.before.loop-d-test.true in
+    (omega (arith, t), l.invariant.1, c.before.before.lay16-in-loop-d.ensures ∙ laid_next _ _ _ l.d _ _ refl l.invariant.2)
 
-same_length : tie.Need-same-length invariant-loop decreases-loop
-same_length c = ap length c.before.loop.invariant.2 ∙ length-laid _ _ _ ∙ ap length c.before.before.before.before.lay16.ensures ∙ length-laid _ _ _
+same_length : tie.Need-shape_of-counts invariant-loop-d decreases-loop-d
+same_length c = ap length c.before.loop-d.invariant.2 ∙ length-laid _ _ _ ∙ ap length c.before.before.before.before.lay16.ensures ∙ length-laid _ _ _
 
-returns : tie.Need-returns invariant-loop decreases-loop
+returns : tie.Need-returns invariant-loop-d decreases-loop-d
 returns c =
     let e = c.before.before.before.before.before.before.before.args in
-    let l = c.before.loop in
-    let d : l.d ≡ 8 = (let t = c.loop-test.false in let q = l.invariant.0 in omega (arith, t, q)) in
+    let l = c.before.loop-d in
+    let d : l.d ≡ 8 = (let t = c.loop-d-test.false in let q = l.invariant.0 in omega (arith, t, q)) in
     l.invariant.2 ∙ rw (d, c.before.before.before.before.lay16.ensures) (laid-counts e.rounds _ e.from _ _ refl)
 
-pub lay-counts-spec : {M : Type 1} → statement M
-lay-counts-spec =
+pub lay_counts_spec : {M : Type 1} → statement M
+lay_counts_spec =
     tie.close
     (tie.spec
-    invariant-loop
-    decreases-loop
+    invariant-loop-d
+    decreases-loop-d
     lay16-requires
     loop-holds
     add-lay16

@@ -6,28 +6,28 @@ use Rattle.ticket.specs.Meaning.{stop_number}
 use Rattle.ticket.proofs.stop_number.Statement.{statement}
 use Rattle.ticket.proofs.stop_number.Tie as tie
 
-returns : tie.Need-returns
+returns : tie.Need-returns-then-number-ne0
 unfolding stop_number
 returns c =
     let e = c.before.args in
-    let bad = c.if1.true in
+    let bad = c.if-number-ne0.true in
     rw (ne_eqb e.number 0 (λ z. omega (arith, bad, z))) refl
 
-returns-2 : tie.Need-returns-2
+returns-2 : tie.Need-returns-then-references-stop
 unfolding stop_number
 returns-2 c =
     let e = c.before.before.args in
-    let above = c.if2.true in
-    let good = c.before.if1.false in
+    let above = c.if-references-stop.true in
+    let good = c.before.if-number-ne0.false in
     rw (eq-eqb e.number 0 (omega (arith, good)), lt-ltb e.references e.stop (omega (arith, above))) refl
 
-returns-3 : tie.Need-returns-3
+returns-3 : tie.Need-returns
 unfolding stop_number
 returns-3 c =
     let e = c.before.before.args in
-    let within = c.if2.false in
-    let good = c.before.if1.false in
+    let within = c.if-references-stop.false in
+    let good = c.before.if-number-ne0.false in
     rw (eq-eqb e.number 0 (omega (arith, good)), le-ltb e.references e.stop (omega (arith, within))) refl
 
-pub stop-number-spec : {M : Type 1} → statement M
-stop-number-spec = tie.close (tie.spec returns returns-2 returns-3)
+pub stop_number_spec : {M : Type 1} → statement M
+stop_number_spec = tie.close (tie.spec returns returns-2 returns-3)
