@@ -6,5 +6,5 @@ use Rattle.building.proofs.read_to.Tie as tie
 returns : tie.Need-returns
 returns c = refl
 
-pub read-to-spec : {M : Type 1} → statement M
-read-to-spec = tie.close (tie.spec returns)
+pub read_to_spec : {M : Type 1} → statement M
+read_to_spec = tie.close (tie.spec returns)

@@ -6,5 +6,5 @@ use Rattle.building.proofs.refused_at.Tie as tie
 returns : tie.Need-returns
 returns c = refl
 
-pub refused-at-spec : {M : Type 1} → statement M
-refused-at-spec = tie.close (tie.spec returns)
+pub refused_at_spec : {M : Type 1} → statement M
+refused_at_spec = tie.close (tie.spec returns)
