@@ -14,7 +14,7 @@ use Rattle.acting.proofs.take_in.Tie as tie
 put-requires : tie.Need-put-requires
 put-requires c κs = search rules
 
-move-on-requires : tie.Need-move-on-requires
+move-on-requires : tie.Need-move_on-requires
 move-on-requires c κs =
     let s = c.before.before.before.before in
     let a = s.args in
@@ -27,7 +27,7 @@ returns : tie.Need-returns
 returns c =
     let a = c.before.before.before.before.before.args in
     taken_is a.refs.now a.resident.now a.steps.now a.d a.u a.place a.desk.now _ _ c.before.before.put.ensures
-    c.move-on.ensures
+    c.move_on.ensures
 
-pub take-in-spec : {M : Type 1} → statement M
-take-in-spec = tie.close (tie.spec put-requires move-on-requires returns)
+pub take_in_spec : {M : Type 1} → statement M
+take_in_spec = tie.close (tie.spec put-requires move-on-requires returns)

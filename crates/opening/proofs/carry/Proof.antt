@@ -21,8 +21,8 @@ pass-all-requires c κs = search rules
 returns : tie.Need-returns
 returns c =
     let s = c.before.before.before.before.before.before.before.before in
-    carried_is s.args.t1 s.args.blocks.now s.args.disks s.args.refs.now s.args.steps.now s.args.desk.now _ _ _
-    c.before.before.before.before.before.before.put_residents.ensures c.before.before.move_all.ensures c.pass_all.ensures
+    carried_is s.args.b s.args.blocks.now s.args.disks s.args.refs.now s.args.steps.now s.args.desk.now _ _ _
+    c.before.before.before.before.before.put_residents.ensures c.before.before.move_all.ensures c.pass_all.ensures
 
 pub carry_spec : {M : Type 1} → statement M
 carry_spec = tie.close (tie.spec put-residents-requires move-all-requires pass-all-requires returns)
