@@ -12,13 +12,13 @@ use Rattle.returning.proofs.of_which.Reads as of-which-reads
 use Rattle.returning.proofs.mark_of.Reads as mark-of-reads
 use Rattle.returning.proofs.which_for.Reads as which-for-reads
 
-which-for-requires : tie.Need-which-for-requires
+which-for-requires : tie.Need-which_for-which-requires
 which-for-requires c κs = search rules
 
-mark-of-requires : tie.Need-mark-of-requires
+mark-of-requires : tie.Need-mark_of-requires
 mark-of-requires c κs = search rules
 
-of-which-requires : tie.Need-of-which-requires
+of-which-requires : tie.Need-of_which-requires
 of-which-requires c κs = search rules
 
 counted-requires : tie.Need-counted-requires
@@ -31,11 +31,11 @@ returns : tie.Need-returns
 unfolding outcome_of
 returns c =
     let k = c.before.before in
-    let w = k.before.before.which-for.ensures in
-    rw (k.before.mark_of.ensures, k.of-which.ensures, w, mark-chosen _ _, two_marked _ _ _ _, c.before.counted.ensures, c.counted2.ensures) refl
+    let w = k.before.before.which_for-which.ensures in
+    rw (k.before.mark_of.ensures, k.of_which.ensures, w, mark-chosen _ _, two_marked _ _ _ _, c.before.counted.ensures, c.counted-2.ensures) refl
 
-pub outcome-spec : {M : Type 1} → statement M
-outcome-spec =
+pub outcome_spec : {M : Type 1} → statement M
+outcome_spec =
     tie.close
     (tie.spec
     which-for-requires

@@ -4,11 +4,11 @@ use borrow.Author.Rules.{rules}
 use Rattle.handing.proofs.sheet_length.Statement.{statement}
 use Rattle.handing.proofs.sheet_length.Tie as tie
 
-add-result : tie.Need-overflow-add-result
+add-result : tie.Need-overflow_add-result
 add-result c = search rules
 
 returns : tie.Need-returns
 returns c = refl
 
-pub sheet-length-spec : {M : Type 1} → statement M
-sheet-length-spec = tie.close (tie.spec add-result returns)
+pub sheet_length_spec : {M : Type 1} → statement M
+sheet_length_spec = tie.close (tie.spec add-result returns)
