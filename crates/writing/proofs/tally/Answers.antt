@@ -4,7 +4,6 @@ use lib.Dec.{lit<}
 use Rattle.bits.proofs.Fields.{below_any}
 use Rattle.writing.proofs.Tallied.{tally_start, tally_idle, tally_fetch, tallied_kept}
 use Rattle.writing.proofs.tally.Goals as goal
-use Rattle.writing.proofs.tally.Goals.{then-acts-d-ne512, else-acts-d-ne512}
 
 pub loop-d-init : goal.loop-d-init
 loop-d-init c = (omega arith, tally_start c.args.fetches.now c.args.acts.now)
@@ -17,12 +16,4 @@ overflow_add-fetches c =
     omega (arith, was, below_any 65535 f (lit< tt) c.requires.1 l.d)
 
 pub loop-d-preserved : goal.loop-d-preserved
-loop-d-preserved c =
-    let l = c.loop-d in
-    let a = c.args in (
-      omega arith,
-      elim c.if-acts-d-ne512.branch [
-        | then-acts-d-ne512 w ↦ w.fetches-is ∙ tally_fetch a.fetches.now a.acts.now l.d l.fetches l.invariant.1 w.if-acts-d-ne512.true
-        | else-acts-d-ne512 w ↦ w.fetches-is ∙ tally_idle a.fetches.now a.acts.now l.d l.fetches l.invariant.1 w.if-acts-d-ne512.false
-      ],
-    )
+loop-d-preserved c = (omega arith, grind (arith, tally_idle, tally_fetch))
