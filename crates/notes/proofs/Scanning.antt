@@ -4,7 +4,6 @@ use mathlib.Core.Bool.{true, false}
 use mathlib.Core.List.{List, [], ◌∷◌}
 use mathlib.Core.Logic.{◌⊎◌, inl, ⊎_elim}
 use mathlib.Core.Option.{Option, none, some}
-use Prim.Native.Char.{code}
 use Prim.Native.Nat.{ℕ, zero, suc, ◌+◌, ◌*◌, ◌≤◌, ◌<◌}
 use native.Mathlib.Omega.{arith}
 use lib.Dec.{leb, eqb}
@@ -12,10 +11,10 @@ use lib.ListN.{length, drop}
 use borrow.Author.Tests.{lt-ltb, ne_eqb, leb-true}
 use Rattle.bits.proofs.Logic.{by_test, and_left, and_right}
 use Rattle.grammar.specs.Note.{Part, block, inside, Item, once, times, Side, Note}
-use Rattle.grammar.specs.Reading.{Before, nothing, side_with, mixed_with, note_with, begin, read, star, space, bar, state, is_digit, digit, goes_on, longer, starred, grown, after_in, after, whole, scan}
+use Rattle.grammar.specs.Reading.{Before, nothing, side_with, mixed_with, note_with, begin, read, star, space, bar, state, is_digit, digit, goes_on, longer, starred, grown, after_in, after, scan}
 use Rattle.grammar.proofs.Scan.{scan_on}
 use Rattle.pieces.specs.Pieces.{begins_with, digits_from}
-use Rattle.pieces.proofs.Laws.{goes, digits_more, digits-stop, digits_end}
+use Rattle.pieces.proofs.Laws.{digits_more, digits-stop, digits_end}
 use Rattle.notes.specs.Readers.{Ended}
 
 -- the text after its first character

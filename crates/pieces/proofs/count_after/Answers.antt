@@ -3,7 +3,6 @@ use Rattle.std.proofs.Common.{arith, sym, ap, ◌∙◌, ◌+◌}
 use Rattle.pieces.specs.Pieces.{count_of}
 use Rattle.pieces.proofs.Laws.{begins_within, digit_is_within, count_none, count-number, count_wrong}
 use Rattle.pieces.proofs.count_after.Goals as goal
-use Rattle.pieces.proofs.count_after.Goals.{else-first-gt0-via-then-first-gt0+else-first-le9, else-first-gt0-via-else-first-gt0}
 
 pub overflow_add-at : goal.overflow_add-at
 overflow_add-at c = omega (arith, begins_within _ c.args.text.now c.args.at c.is_at.ensures c.if-is_at.true)
@@ -17,7 +16,7 @@ number_from-n-requires-clause-at_in_bounds c = omega (arith, digit_is_within c.a
 pub returns-then-first-le9 : goal.returns-then-first-le9
 returns-then-first-le9 c =
     ap count_of c.number_from-n.ensures
-    ∙ sym (count-number _ _ (sym c.is_at.ensures ∙ c.if-is_at.true) _ c.digit_at-first.ensures c.if-first-gt0.true c.if-first-le9.true)
+    ∙ sym (count-number _ _ (sym c.is_at.ensures ∙ c.if-is_at.true) _ c.digit_at-first.ensures (omega arith) c.if-first-le9.true)
 
 pub overflow_add-result : goal.overflow_add-result
 overflow_add-result c = omega (arith, begins_within _ c.args.text.now c.args.at c.is_at.ensures c.if-is_at.true)
@@ -25,10 +24,7 @@ overflow_add-result c = omega (arith, begins_within _ c.args.text.now c.args.at 
 pub returns-then-is_at : goal.returns-then-is_at
 returns-then-is_at c =
     sym (count_wrong _ _ (sym c.is_at.ensures ∙ c.if-is_at.true) _ c.digit_at-first.ensures
-    (λ h k. elim c.else-first-gt0.branch [
-      | else-first-gt0-via-then-first-gt0+else-first-le9 w ↦ omega (arith, w.if-first-le9.false)
-      | else-first-gt0-via-else-first-gt0 w ↦ omega (arith, w.if-first-gt0.false)
-    ]))
+    (λ h k. omega arith))
 
 pub returns : goal.returns
 returns c = sym (count_none _ _ (sym c.is_at.ensures ∙ c.if-is_at.false))
