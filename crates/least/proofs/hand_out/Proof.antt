@@ -11,42 +11,42 @@ use Rattle.least.specs.Least.{handed_for}
 use Rattle.least.proofs.hand_out.Statement.{statement}
 use Rattle.least.proofs.hand_out.Tie as tie
 
-sheet-length-requires : tie.Need-sheet-length-requires
+sheet-length-requires : tie.Need-sheet_length-m-requires
 sheet-length-requires c κs = search rules
 
-slots-refusal-requires : tie.Need-slots-refusal-requires
+slots-refusal-requires : tie.Need-slots_refusal-requires
 slots-refusal-requires c κs = search rules
 
-returns : tie.Need-returns
+returns : tie.Need-returns-then-short-m
 unfolding handed_for
 returns c =
     let s = c.before.before.before.before.before.args in
-    let less = c.before.if1.true in
-    let m = c.before.before.sheet-length.ensures in
-    rw (lt-ltb (length s.short.now) (bytes_for s.plan.bits) (omega (arith, less, m))) (c.slots-refusal.ensures, refl)
+    let less = c.before.if-short-m.true in
+    let m = c.before.before.sheet_length-m.ensures in
+    rw (lt-ltb (length s.short.now) (bytes_for s.plan.bits) (omega (arith, less, m))) (c.slots_refusal.ensures, refl)
 
-copy-front-requires : tie.Need-copy-front-requires
+copy-front-requires : tie.Need-copy_front-requires
 copy-front-requires c κs = search rules
 
 counted-requires : tie.Need-counted-requires
 counted-requires c κs = search rules
 
-same_length : tie.Need-same-length
+same_length : tie.Need-shape_of-short
 same_length c = search rules
 
-returns-2 : tie.Need-returns-2
+returns-2 : tie.Need-returns
 unfolding handed_for
 returns-2 c =
     let s = c.before.before.before.before.before.before.before.before.before.args in
-    let more = c.before.before.before.before.before.if1.false in
-    let m = c.before.before.before.before.before.before.sheet-length.ensures in
+    let more = c.before.before.before.before.before.if-short-m.false in
+    let m = c.before.before.before.before.before.before.sheet_length-m.ensures in
     rw (le-ltb (length s.short.now) (bytes_for s.plan.bits) (omega (arith, more, m))) (
       (λ i. record { number = 0; slots = Slots s.count; length = m i; counts = c.counted.ensures i }),
-      c.before.before.before.copy-front.ensures ∙ ap (λ (k : ℕ). over (take k s.sheet.now) s.short.now) m,
+      c.before.before.before.copy_front.ensures ∙ ap (λ (k : ℕ). over (take k s.sheet.now) s.short.now) m,
     )
 
-pub hand-out-spec : {M : Type 1} → statement M
-hand-out-spec =
+pub hand_out_spec : {M : Type 1} → statement M
+hand_out_spec =
     tie.close
     (tie.spec
     sheet-length-requires
