@@ -4,24 +4,24 @@ use Rattle.listing.proofs.PassesPrinted.{none_read, feed_read, all_read}
 use Rattle.listing.proofs.note_length.Statement.{statement}
 use Rattle.listing.proofs.note_length.Tie as tie
 
-returns : tie.Need-returns
-returns c = none_read c.before.args.input.now c.if1.true
+returns : tie.Need-returns-then-n-eq0
+returns c = none_read c.before.args.input.now c.if-n-eq0.true
 
-sub-if2 : tie.Need-overflow-sub-if2
+sub-if2 : tie.Need-overflow_sub-n
 sub-if2 c = search rules
 
-shared-slice-read-if2 : tie.Need-shared-slice-read-if2
+shared-slice-read-if2 : tie.Need-bounds-input-n
 shared-slice-read-if2 c = search rules
 
-sub-result : tie.Need-overflow-sub-result
+sub-result : tie.Need-overflow_sub-result
 sub-result c = search rules
 
-returns-2 : tie.Need-returns-2
-returns-2 c = feed_read c.before.before.before.args.input.now c.if2.true
+returns-2 : tie.Need-returns-then-input-n-eq10
+returns-2 c = feed_read c.before.before.before.args.input.now c.if-input-n-eq10.true
 
-returns-3 : tie.Need-returns-3
-returns-3 c = all_read c.before.before.before.args.input.now c.if2.false
+returns-3 : tie.Need-returns
+returns-3 c = all_read c.before.before.before.args.input.now c.if-input-n-eq10.false
 
-pub note-length-spec : {M : Type 1} → statement M
-note-length-spec =
+pub note_length_spec : {M : Type 1} → statement M
+note_length_spec =
     tie.close (tie.spec returns sub-if2 shared-slice-read-if2 sub-result returns-2 returns-3)
