@@ -19,7 +19,7 @@ unfolding counting
 returns-then-a-ne0 c =
     let a = c.args in
     let first =
-        check_given a.ticket.now a.stop _ c.read-read.ensures _ c.stop_number-number.ensures a.first.now _ c.if-number-ne0.false c.check-a.ensures
+    check_given a.ticket.now a.stop _ c.read-read.ensures _ c.stop_number-number.ensures a.first.now _ c.if-number-ne0.false c.check-a.ensures
     in
     first_stops a.ticket.now a.stop a.first.now a.second.now _ first.0 _ c.if-a-ne0.true c.no_choice-then-a-ne0.ensures
 
@@ -32,10 +32,10 @@ unfolding counting
 returns-then-b-ne0 c =
     let a = c.args in
     let first =
-        check_given a.ticket.now a.stop _ c.read-read.ensures _ c.stop_number-number.ensures a.first.now _ c.if-number-ne0.false c.check-a.ensures
+    check_given a.ticket.now a.stop _ c.read-read.ensures _ c.stop_number-number.ensures a.first.now _ c.if-number-ne0.false c.check-a.ensures
     in
     let second =
-        check_given a.ticket.now a.stop _ c.read-read.ensures _ c.stop_number-number.ensures a.second.now _ c.if-number-ne0.false c.check-b.ensures
+    check_given a.ticket.now a.stop _ c.read-read.ensures _ c.stop_number-number.ensures a.second.now _ c.if-number-ne0.false c.check-b.ensures
     in
     second_stops a.ticket.now a.stop a.first.now a.second.now _ first.0 c.if-a-ne0.false _ second.0 _ c.if-b-ne0.true c.no_choice-then-b-ne0.ensures
 
@@ -44,9 +44,9 @@ unfolding counting
 returns c =
     let a = c.args in
     let first =
-        check_given a.ticket.now a.stop _ c.read-read.ensures _ c.stop_number-number.ensures a.first.now _ c.if-number-ne0.false c.check-a.ensures
+    check_given a.ticket.now a.stop _ c.read-read.ensures _ c.stop_number-number.ensures a.first.now _ c.if-number-ne0.false c.check-a.ensures
     in
     let second =
-        check_given a.ticket.now a.stop _ c.read-read.ensures _ c.stop_number-number.ensures a.second.now _ c.if-number-ne0.false c.check-b.ensures
+    check_given a.ticket.now a.stop _ c.read-read.ensures _ c.stop_number-number.ensures a.second.now _ c.if-number-ne0.false c.check-b.ensures
     in
     both_chosen a.ticket.now a.stop a.first.now a.second.now _ first.0 c.if-a-ne0.false _ second.0 _ c.if-b-ne0.false c.preference.ensures
