@@ -69,7 +69,8 @@ drive-plan-requires c =
     let refs = fits.few_refs in
     let e = c.rounds_tried-most.ensures in
     let few = tried_few c.args.wanted c.args.job.count in
-    Tried.tried_asks c.args.job fits c.args.disk c.requires.1 c.loop-s.s inv.1 c.loop-s-test.true inv.3 opened.0 opened.1 opened.2 refl _ _
+    let top = c.loop-s-test.true in
+    Tried.tried_asks c.args.job fits c.args.disk c.requires.1 c.loop-s.s inv.1 (omega (arith, top)) inv.3 opened.0 opened.1 opened.2 refl _ _
     (omega (arith, e, few, refs)) refl
 
 pub hand_out-requires : goal.hand_out-requires
@@ -77,17 +78,21 @@ hand_out-requires c =
     let inv = c.loop-s.invariant in
     let opened = c.open-b.ensures in
     let drove = c.drive-plan.ensures in
-    asks c.args.job c.requires.0 c.args.disk c.requires.1 c.args.wanted c.loop-s.s inv.1 c.loop-s-test.true inv.3 inv.4 c.rounds_tried-most.ensures
-    opened.0 opened.1 opened.2 drove.0 c.if-plan-wanted.true drove.1
+    let top = c.loop-s-test.true in
+    let within : c.drive-plan.result.rounds ≤ c.args.wanted = omega arith in
+    asks c.args.job c.requires.0 c.args.disk c.requires.1 c.args.wanted c.loop-s.s inv.1 (omega (arith, top)) inv.3 inv.4 c.rounds_tried-most.ensures
+    opened.0 opened.1 opened.2 drove.0 within drove.1
 
 pub returns-then-plan-wanted : goal.returns-then-plan-wanted
 returns-then-plan-wanted c =
     let inv = c.loop-s.invariant in
     let opened = c.open-b.ensures in
     let drove = c.drive-plan.ensures in
+    let top = c.loop-s-test.true in
+    let within : c.drive-plan.result.rounds ≤ c.args.wanted = omega arith in
     subst (Answered (job_of c.args.job) c.args.disk c.args.wanted _ _) inv.0
-    (gives c.args.job c.requires.0 c.args.disk c.requires.1 c.args.wanted c.loop-s.s inv.1 c.loop-s-test.true inv.3 inv.4 c.rounds_tried-most.ensures
-    opened.0 opened.1 opened.2 drove.0 c.if-plan-wanted.true drove.1 c.loop-s.short c.hand_out.ensures)
+    (gives c.args.job c.requires.0 c.args.disk c.requires.1 c.args.wanted c.loop-s.s inv.1 (omega (arith, top)) inv.3 inv.4 c.rounds_tried-most.ensures
+    opened.0 opened.1 opened.2 drove.0 within drove.1 c.loop-s.short c.hand_out.ensures)
 
 pub loop-s-preserved : goal.loop-s-preserved
 loop-s-preserved c =
@@ -95,13 +100,13 @@ loop-s-preserved c =
     let opened = c.open-b.ensures in
     let top = c.loop-s-test.true in
     let held = inv.3 in
-    let left = c.if-plan-wanted.false in (
+    let left : c.args.wanted < c.drive-plan.result.rounds = omega arith in (
       inv.0,
       omega arith,
       omega (arith, top),
       omega (arith, held),
-      next c.args.job c.requires.0 c.args.disk c.requires.1 c.args.wanted c.loop-s.s inv.1 top held inv.4 c.rounds_tried-most.ensures
-          opened.0 opened.1 opened.2 c.drive-plan.ensures.0 (omega (arith, left)),
+      next c.args.job c.requires.0 c.args.disk c.requires.1 c.args.wanted c.loop-s.s inv.1 (omega (arith, top)) held inv.4 c.rounds_tried-most.ensures
+          opened.0 opened.1 opened.2 c.drive-plan.ensures.0 left,
     )
 
 pub returns : goal.returns
