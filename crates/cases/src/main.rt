@@ -195,7 +195,12 @@ fn write_left(rt: &HostRuntime, rounds: usize, fetches: [u16; 8]) -> io::Result<
 
 // What planning gave, and both buffers. After a refusal they are as they were filled, the part is empty and all counts are 0, so nothing of them is
 // written.
-fn write_planned<'a>(rt: &HostRuntime, p: Planned, short: &'a [u8], sparing: &'a [u8]) -> io::Result<()> {
+fn write_planned<'a>(
+    rt: &HostRuntime,
+    p: Planned,
+    short: &'a [u8],
+    sparing: &'a [u8],
+) -> io::Result<()> {
     write_number(rt, p.number)?;
     let part = planner::part(short, sparing, p);
     let a = p.short;
@@ -224,13 +229,26 @@ fn write_planned<'a>(rt: &HostRuntime, p: Planned, short: &'a [u8], sparing: &'a
 }
 
 // Plans a ticket into two filled buffers.
-fn plan_into(rt: &HostRuntime, ticket: &[u8], stop: usize, short: &mut [u8], sparing: &mut [u8]) -> io::Result<()> {
+fn plan_into(
+    rt: &HostRuntime,
+    ticket: &[u8],
+    stop: usize,
+    short: &mut [u8],
+    sparing: &mut [u8],
+) -> io::Result<()> {
     let p = planner::plan(ticket, stop, short, sparing);
     write_planned(rt, p, short, sparing)
 }
 
 // Plans a ticket into three filled buffers. After a refusal the page's length is 0 and its buffer as it was filled, so nothing of it is written.
-fn page_into(rt: &HostRuntime, ticket: &[u8], stop: usize, short: &mut [u8], sparing: &mut [u8], page: &mut [u8]) -> io::Result<()> {
+fn page_into(
+    rt: &HostRuntime,
+    ticket: &[u8],
+    stop: usize,
+    short: &mut [u8],
+    sparing: &mut [u8],
+    page: &mut [u8],
+) -> io::Result<()> {
     let g = planner::plan_with_page(ticket, stop, short, sparing, page);
     let p = g.planned;
     write_planned(rt, p, short, sparing)?;
@@ -293,12 +311,14 @@ fn page_line(rt: &HostRuntime) -> io::Result<()> {
     let b = within(read_number(rt)?, &sparing);
     let c = within(read_number(rt)?, &page);
     write(rt, b" =")?;
-    page_into(rt,
+    page_into(
+        rt,
         &ticket[..n],
         stop,
         &mut short[..a],
         &mut sparing[..b],
-        &mut page[..c],)
+        &mut page[..c],
+    )
 }
 
 // A line `check`.
@@ -321,7 +341,13 @@ fn check_line(rt: &HostRuntime) -> io::Result<()> {
 }
 
 // The choice between two sheets. After a refusal neither is handed back, so nothing more is written.
-fn choose_between<'a>(rt: &HostRuntime, ticket: &[u8], stop: usize, first: &'a [u8], second: &'a [u8]) -> io::Result<()> {
+fn choose_between<'a>(
+    rt: &HostRuntime,
+    ticket: &[u8],
+    stop: usize,
+    first: &'a [u8],
+    second: &'a [u8],
+) -> io::Result<()> {
     let c = planner::choose(ticket, stop, first, second);
     write_number(rt, c.number)?;
     let sheet = planner::chosen_sheet(first, second, c);
@@ -365,7 +391,14 @@ fn says_rounds(sheet: &[u8], rounds: usize) -> bool {
 
 // The least slots of a disk, into a filled buffer. After a refusal, and where there is none, the buffer is as it was filled, the part is empty and
 // all counts are 0, so nothing of them is written.
-fn slots_into(rt: &HostRuntime, ticket: &[u8], stop: usize, disk: usize, wanted: usize, short: &mut [u8]) -> io::Result<()> {
+fn slots_into(
+    rt: &HostRuntime,
+    ticket: &[u8],
+    stop: usize,
+    disk: usize,
+    wanted: usize,
+    short: &mut [u8],
+) -> io::Result<()> {
     let least = planner::least_slots(ticket, stop, disk, wanted, short);
     write_number(rt, least.number)?;
     let part = planner::slots_part(short, least);
