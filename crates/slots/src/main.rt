@@ -30,15 +30,15 @@ fn argument(rt: &HostRuntime, i: usize) -> Argument {
     }
 }
 
-// Whether there are exactly two arguments beside the program's name.
-fn two_arguments(rt: &HostRuntime) -> bool {
+// Whether there are no more than two arguments beside the program's name.
+fn no_third_argument(rt: &HostRuntime) -> bool {
     let mut text = [0u8; 1];
     matches!(rt.arg(3, &mut text), Err(FillError::NotPresent))
 }
 
 // Numbers from 65,535 on are given as that; what is printed is the same (`disk_capped` and `rounds-capped` in `proofs/Capped.antt`).
 fn main(rt: HostRuntime) -> io::Result<()> {
-    if !two_arguments(&rt) {
+    if !no_third_argument(&rt) {
         return print_usage(&rt);
     }
     let first = argument(&rt, 1);
