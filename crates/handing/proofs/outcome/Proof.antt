@@ -5,12 +5,6 @@ use Rattle.returning.proofs.TwoSheets.{mark-chosen, two_marked}
 use borrow.Author.Rules.{rules}
 use Rattle.handing.proofs.outcome.Statement.{statement}
 use Rattle.handing.proofs.outcome.Tie as tie
-use Rattle.handing.proofs.outcome.Reads as reads
-use Rattle.handing.proofs.outcome.Lts as lts
-use Rattle.handing.proofs.counted.Reads as counted-reads
-use Rattle.returning.proofs.of_which.Reads as of-which-reads
-use Rattle.returning.proofs.mark_of.Reads as mark-of-reads
-use Rattle.returning.proofs.which_for.Reads as which-for-reads
 
 which-for-requires : tie.Need-which_for-which-requires
 which-for-requires c κs = search rules
