@@ -1,4 +1,5 @@
 -- `handing::plan_job` meets its contract, for rooms that are too small and for rooms that are not. Assumes nothing.
+use Rattle.std.proofs.Common.{arith}
 use Rattle.choosing.specs.declared.Rule.TheVariants.{Short, Sparing}
 use Rattle.handing.proofs.Rooms.{gives_refused, short_totals, sparing_totals, bits-few, job_refused, job_given, hand_asks, hand_gives}
 use Rattle.handing.proofs.plan_job.Goals as goal
@@ -21,7 +22,7 @@ hand_out-requires c =
     let run = c.run-plans.ensures in
     let fits =
     job_given _ c.requires.sound _ run.0 _ _ _ _ _ c.sheet_length.ensures c.sheet_length-2.ensures c.room_number-number.ensures
-    c.if-number-ne0.false
+    (omega arith)
     in
     let asks = hand_asks _ c.requires.sound _ run.0 run.1 run.2 fits.1 fits.2 in
     record { bits_bound = asks.0; bits_bound_2 = asks.1 }
@@ -31,6 +32,6 @@ returns c =
     let run = c.run-plans.ensures in
     let fits =
     job_given _ c.requires.sound _ run.0 _ _ _ _ _ c.sheet_length.ensures c.sheet_length-2.ensures c.room_number-number.ensures
-    c.if-number-ne0.false
+    (omega arith)
     in
     hand_gives _ c.requires.sound _ run.0 run.1 run.2 _ c.args.short.now c.args.sparing.now fits.0 c.hand_out.ensures
