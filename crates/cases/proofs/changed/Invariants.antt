@@ -1,5 +1,5 @@
 -- `changed` looks from the end back, at most to the start. Assumes nothing.
-use Rattle.std.proofs.Common.{ℕ, ◌≤◌, length}
+use Rattle.std.proofs.Common.{◌≤◌, length}
 use Rattle.cases.proofs.changed.Given as goal
 
 abbrev pub invariant-loop-n : goal.invariant-loop-n

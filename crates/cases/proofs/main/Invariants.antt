@@ -1,5 +1,4 @@
 -- `main` reads at most so many lines as its count of turns says. Assumes nothing.
-use Rattle.std.proofs.Common.{ℕ}
 use Rattle.cases.proofs.main.Given as goal
 
 abbrev pub decreases-loop-turns : goal.decreases-loop-turns

@@ -1,5 +1,5 @@
 -- `read_bytes` puts a byte in each turn, within the buffer. Assumes nothing.
-use Rattle.std.proofs.Common.{ℕ, ◌-◌, ◌≤◌, length}
+use Rattle.std.proofs.Common.{◌-◌, ◌≤◌, length}
 use Rattle.cases.proofs.read_bytes.Given as goal
 
 abbrev pub invariant-loop-n : goal.invariant-loop-n

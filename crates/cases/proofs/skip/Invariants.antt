@@ -1,5 +1,4 @@
 -- `skip` reads at most so many bytes as its count of turns says. Assumes nothing.
-use Rattle.std.proofs.Common.{ℕ}
 use Rattle.cases.proofs.skip.Given as goal
 
 abbrev pub decreases-loop-turns : goal.decreases-loop-turns

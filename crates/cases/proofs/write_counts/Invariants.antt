@@ -1,5 +1,5 @@
 -- `write_counts` writes the counts of eight disks. Assumes nothing.
-use Rattle.std.proofs.Common.{ℕ, ◌-◌, ◌≤◌}
+use Rattle.std.proofs.Common.{◌-◌, ◌≤◌}
 use Rattle.cases.proofs.write_counts.Given as goal
 
 abbrev pub invariant-loop-d : goal.invariant-loop-d

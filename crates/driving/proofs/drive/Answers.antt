@@ -1,5 +1,5 @@
 -- `drive` meets its contract: what is known before a round, a turn and a reference (`Invariants`) is taken on by each. Assumes nothing.
-use Rattle.std.proofs.Common.{◌≡◌, ℕ, ◌*◌, ◌≤◌, ◌<◌, ◌+◌, List, length, get_or, refl, ap, subst, ◌∙◌, arith}
+use Rattle.std.proofs.Common.{◌≡◌, ℕ, ◌*◌, ◌<◌, length, get_or, refl, ap, subst, ◌∙◌, arith}
 use lib.Dec.{lit<}
 use Rattle.bits.proofs.Fields.{below_any}
 use Rattle.lookup.specs.Desk.{helds, looks}
@@ -13,7 +13,7 @@ use Rattle.choosing.proofs.Chosen.{Placed}
 use Rattle.driving.proofs.Input.{input_with, state_with}
 use Rattle.driving.proofs.Sizes.{chosen_placed, chosen-small, look_within}
 use Rattle.driving.proofs.WrittenSoFar.{written_room, written_clear, written-few, header_fits}
-use Rattle.driving.proofs.RestOfPlan.{BeforeRound, round-first, round-next, NoneLeft, all_played, all_read, last_totals, last_sheet, last_desk, last_reasons}
+use Rattle.driving.proofs.RestOfPlan.{round-first, round-next, NoneLeft, all_played, all_read, last_totals, last_sheet, last_desk, last_reasons}
 use Rattle.driving.proofs.RestOfPlan.{turn_first, turn_next, turn_last, turn_into, turn_over, turn_idle}
 use Rattle.driving.proofs.RestOfPlan.{read_first, read_next_lem, read-missing, read_end}
 use Rattle.driving.proofs.drive.Goals as goal

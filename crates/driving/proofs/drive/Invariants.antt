@@ -1,6 +1,6 @@
 -- `drive`: before each round, each turn and each reference what is known is one record (`BeforeRound`, `BeforeTurn`, `BeforeRead`). The measures are
 -- the rounds, the disks and the references left. Assumes nothing.
-use Rattle.std.proofs.Common.{ℕ, ◌-◌, length}
+use Rattle.std.proofs.Common.{◌-◌, length}
 use Rattle.driving.proofs.Input.{input_with, state_with}
 use Rattle.driving.proofs.RestOfPlan.{BeforeRound, BeforeTurn, BeforeRead}
 use Rattle.driving.proofs.drive.Given as goal

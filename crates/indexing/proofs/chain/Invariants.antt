@@ -1,5 +1,4 @@
 -- `chain`. The invariant: the tables are those of the disks of the references from i on. The measure is i. Assumes nothing.
-use Rattle.std.proofs.Common.{ℕ}
 use Rattle.lookup.specs.Lookup.{ref_disks}
 use Rattle.indexing.proofs.Backward.{Done}
 use Rattle.indexing.proofs.chain.Given as goal

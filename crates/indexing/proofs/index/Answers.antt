@@ -1,5 +1,5 @@
 -- `index` meets its contract: each turn takes the tables one reference back. Assumes nothing.
-use Rattle.std.proofs.Common.{◌≡◌, refl, ℕ, ◌-◌, ◌<◌, length, get_or, arith}
+use Rattle.std.proofs.Common.{◌≡◌, refl, ◌-◌, length, get_or, arith}
 use Rattle.indexing.proofs.Backward.{done_start, done_back, done_end}
 use Rattle.indexing.proofs.index.Goals as goal
 

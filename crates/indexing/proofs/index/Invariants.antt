@@ -1,5 +1,4 @@
 -- `index`. The invariant: the tables are those of the references from i on. The measure is i. Assumes nothing.
-use Rattle.std.proofs.Common.{ℕ}
 use Rattle.indexing.proofs.Backward.{Done}
 use Rattle.indexing.proofs.index.Given as goal
 

@@ -1,5 +1,4 @@
 -- `open`: what `index` and `chain` write into the rows lent to them. Assumes nothing.
-use Rattle.std.proofs.Common.{rules}
 use Rattle.indexing.proofs.Opened.{desk-opened, steps-opened}
 use Rattle.indexing.proofs.open.Goals as goal
 

@@ -1,6 +1,6 @@
 -- `open`: the buffers before round 1, the desk of empty buffers, and that of the blocks carried in. Assumes nothing.
 use Rattle.std.proofs.Common.{arith}
-use Rattle.playing.proofs.Started.{carrying_asks, reading_asks, started}
+use Rattle.playing.proofs.Started.{reading_asks, started}
 use Rattle.opening.proofs.Started.{refs-few, refs-small, opened-from, stepped_from, carry_asks, open_gives}
 use Rattle.opening.proofs.open.Goals as goal
 
