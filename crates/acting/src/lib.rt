@@ -3,41 +3,36 @@
 
 ghost use Rattle.std.specs.Prelude.{◌≡◌, ◌≤◌, ◌<◌, length, get_or};
 ghost use Rattle.bits.specs.Bits.{Below};
-ghost use Rattle.lookup.specs.Desk.{helds, looks, of_disk};
 ghost use Rattle.moving.specs.Moving.{Ahead};
-ghost use Rattle.acting.specs.Acting.{Small, column, noted, taken_in};
+ghost use Rattle.acting.specs.Acting.{Small, noted, taken_in};
 
-use choosing::Choice;
+use choosing::{Choice, Rule};
 use lookup::{Desk, Steps};
-use writing::Actions;
+use writing::Action;
 
-// Writes a disk's column of a round's actions.
-fn write(acts: &mut Actions, d: usize, fetched: usize, discarded: usize, reason: usize)
-    requires { (d < 8) × (fetched ≤ 512) × (discarded ≤ 512) × (reason ≤ 4) }
-    ensures { acts.new ≡ column acts.old d fetched discarded reason }
-{
-    acts[writing::FETCHED][d] = fetched as u16;
-    acts[writing::DISCARDED][d] = discarded as u16;
-    acts[writing::REASON][d] = reason as u16;
+// What is lent to a plan and does not change: the slots of each disk, the references, the steps between them, and the rule.
+#[derive(Clone, Copy)]
+pub struct Input<'a> {
+    pub slots: &'a [u16],
+    pub refs: &'a [u16],
+    pub steps: &'a Steps,
+    pub rule: Rule,
 }
 
-// What disk d does in the round, and why. The number 512 stands for no block.
-pub fn note(d: usize, c: Choice, desk: &Desk, acts: &mut Actions)
-    requires { (d < 8) × Small c × Below 512 (helds desk.now) }
-    ensures { acts.new ≡ noted d c desk.now acts.old }
+// What a disk does in the round, and why, as it is written: the min-block is the resident at the place that was chosen.
+pub fn note(c: Choice, desk: &Desk) -> Action
+    requires { Small c × Below 512 desk.now.held }
+    ensures { result ≡ noted desk.now.held c }
 {
     match c {
-        Choice::IntoEmpty(u, _) => write(acts, d, u, 512, 0),
-        Choice::OverMinBlock(u, place) => write(
-            acts,
-            d,
-            u,
-            lookup::at(desk, lookup::HELD, place),
-            1,
-        ),
-        Choice::MinBlockSooner => write(acts, d, 512, 512, 2),
-        Choice::Waits => write(acts, d, 512, 512, 3),
-        Choice::NoneMissing => write(acts, d, 512, 512, 4),
+        Choice::IntoEmpty(u, _) => Action::IntoEmpty(u as u16),
+        Choice::OverMinBlock(u, place) => {
+            let v = desk.held_at(place);
+            Action::OverMinBlock(u as u16, v as u16)
+        }
+        Choice::MinBlockSooner => Action::MinBlockSooner,
+        Choice::Waits => Action::Waits,
+        Choice::NoneMissing => Action::NoneMissing,
     }
 }
 
@@ -46,15 +41,14 @@ pub fn take_in(
     d: usize,
     u: usize,
     place: usize,
-    refs: &[u16],
+    input: Input,
     resident: &[bool; 512],
-    steps: &Steps,
     desk: &mut Desk,
 )
-    requires d_bound { (d < 8) × (u < 512) × (place < 512) × (get_or (looks desk.old) d 0 ≤ length refs.now) }
-    requires refs_len_bound { (length refs.now ≤ 2048) × Below 512 refs.now × Ahead (length refs.now) (of_disk steps.now) }
-    ensures { desk.new ≡ taken_in refs.now resident.now steps.now d u place desk.old }
+    requires d_bound { (d < 8) × (u < 512) × (place < 512) × (get_or desk.old.look d 0 ≤ length input.refs.now) }
+    requires refs_len_bound { (length input.refs.now ≤ 2048) × Below 512 input.refs.now × Ahead (length input.refs.now) input.steps.now.of_disk }
+    ensures { desk.new ≡ taken_in input.entry.refs.now resident.now input.entry.steps.now d u place desk.old }
 {
-    lookup::put(desk, lookup::HELD, place, u);
-    moving::move_on(d, refs, resident, steps, desk);
+    desk.hold(place, u);
+    moving::move_on(d, input.refs, resident, input.steps, desk);
 }

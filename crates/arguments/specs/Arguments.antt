@@ -1,19 +1,16 @@
 -- Numbers that a program is given as its arguments. Assumes nothing.
-use Rattle.std.specs.Prelude.{true, false, List, [], ◌∷◌, ℕ, ◌+◌, ◌*◌, min}
-use Rattle.std.proofs.Math.Option.{Option, none, some}
+use Rattle.std.specs.Prelude.{true, false, Option, Some, None, List, [], ◌∷◌, ℕ, ◌+◌, ◌*◌, min}
 use Rattle.grammar.specs.Reading.{is_digit, digit}
-use Rattle.arguments.specs.declared.Argument.{Argument}
-use Rattle.arguments.specs.declared.Argument.TheVariants.{Malformed, Number}
 
 -- The number of which v has been read, with the digits that follow; no number if anything else follows.
 unfoldable pub digits_in : ℕ → List ℕ → Option ℕ
-digits_in v [] = some v
-digits_in v (c ∷ more) = elim (is_digit c) [ true ↦ digits_in (v * 10 + digit c) more | false ↦ none ]
+digits_in v [] = Some v
+digits_in v (c ∷ more) = elim (is_digit c) [ true ↦ digits_in (v * 10 + digit c) more | false ↦ None ]
 
 -- One or more decimal digits; zeros may stand before them.
 unfoldable pub number_in : List ℕ → Option ℕ
 unfolding digits_in
-number_in [] = none
+number_in [] = None
 number_in (c ∷ more) = digits_in 0 (c ∷ more)
 
 -- Numbers from 65,535 on are not told apart: no disk and no count of rounds is so large.
@@ -23,6 +20,6 @@ capped n = min n 65535
 abbrev pub with_digit : ℕ → ℕ → ℕ
 with_digit v d = capped (v * 10 + d)
 
-abbrev pub argument_as : Option ℕ → Argument
-argument_as none = Malformed
-argument_as (some n) = Number (capped n)
+abbrev pub argument_as : Option ℕ → Option ℕ
+argument_as None = None
+argument_as (Some n) = Some (capped n)

@@ -3,14 +3,15 @@ use mathlib.Core.Path.{◌≡◌, sym, ap, ◌∙◌}
 use mathlib.Core.Bool.{Bool, true, false, ◌&&◌}
 use mathlib.Core.List.{List, [], ◌∷◌, append-nil}
 use Prim.Native.Nat.{ℕ, zero, suc, ◌+◌, ◌-◌, ◌*◌, ◌/◌, ◌%◌, ◌^◌, ◌≤◌, ◌<◌}
-use native.Mathlib.Nat.{zero-add, sub-zero, suc-sub-suc, mod-one, not-suc-le-zero, zero-mul, one-mul, suc-mul, div-add-mod'}
+use native.Mathlib.Nat.{zero-mod, zero-add, sub-zero, suc-sub-suc, mod-one, not-suc-le-zero, zero-mul, one-mul, suc-mul, div-add-mod'}
 use native.Mathlib.Omega.{arith}
 use lib.Arith.{mod-mul}
-use lib.Dec.{eqb, lit<}
-use lib.ListN.{length, drop, get_or, length-drop, drop_of_length-le}
+use lib.Dec.{eqb, ltb, lit<}
+use lib.ListN.{length, drop, get_or, length-drop, drop_of_length-le, get_or-eq_default}
 use lib.Pow.{pow_pos, shl_exact}
 use lib.Seq.{drop-cons, drop-drop}
-use borrow.Author.Tests.{lt-ltb, le-ltb, ne_eqb}
+use borrow.Author.Tests.{lt-ltb, le-ltb, ne_eqb, ltb-true, ltb-false}
+use Rattle.bits.proofs.Logic.{by_test}
 use Rattle.bits.specs.Bits.{digits, bits}
 use Rattle.bits.specs.Reading.{all_zero, is_closed}
 use Rattle.bits.proofs.Bits.{two, length-bits}
@@ -64,7 +65,7 @@ module _ (at : ℕ) (s : List ℕ) where
       rw (le-ltb (length (drop at (bits s))) 8 (omega (arith, l, n)))
 
   -- the last byte is begun
-  pub closed_last : length s ≤ (at + 7) / 8 → at / 8 < length s → is_closed (drop at (bits s)) ≡ eqb (get_or s (at / 8) 0 % 2 ^ (8 - at % 8)) 0
+  closed_last : length s ≤ (at + 7) / 8 → at / 8 < length s → is_closed (drop at (bits s)) ≡ eqb (get_or s (at / 8) 0 % 2 ^ (8 - at % 8)) 0
   unfolding is_closed
   closed_last p h =
       let l = length-drop at (bits s) in
@@ -73,8 +74,16 @@ module _ (at : ℕ) (s : List ℕ) where
       (ap all_zero (last_bits at s (omega arith)) ∙ zero-digits (8 - at % 8) (get_or s (at / 8) 0))
 
   -- all bytes are read
-  pub closed_none : length s ≤ at / 8 → is_closed (drop at (bits s)) ≡ true
+  closed_none : length s ≤ at / 8 → is_closed (drop at (bits s)) ≡ true
   unfolding is_closed all_zero
   closed_none h =
       let n = length-bits s in
       rw (drop_of_length-le (bits s) {i = at} (omega (arith, n)))
+
+  -- no byte follows: past the end there is a 0
+  pub closed_by_low_bits : length s ≤ (at + 7) / 8 → is_closed (drop at (bits s)) ≡ eqb (get_or s (at / 8) 0 % 2 ^ (8 - at % 8)) 0
+  closed_by_low_bits h =
+      by_test (ltb (at / 8) (length s)) (λ t. closed_last h (ltb-true (at / 8) (length s) t)) λ f.
+      let out = ltb-false (at / 8) (length s) f in
+      let p = pow_pos (8 - at % 8) in
+      rw (get_or-eq_default s 0 out, zero-mod (2 ^ (8 - at % 8))) (closed_none out)

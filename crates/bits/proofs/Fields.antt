@@ -1,20 +1,19 @@
 -- The laws of fields and of what is written: a field read at a position is what a reader reads there, bits put one after the other are
 -- packed bytes, and strings written one after the other are one string. Assumes nothing.
 use mathlib.Core.Path.{◌≡◌, refl, sym, ap, ap₂, ◌∙◌}
-use mathlib.Core.Bool.{Bool, true, false}
+use mathlib.Core.Bool.{Bool, true, false, cond}
+use Rattle.std.specs.Prelude.{Option, Some, None}
 use mathlib.Core.List.{List, [], ◌∷◌, ◌++◌, append-nil}
 use Prim.Native.Nat.{ℕ, zero, suc, ◌+◌, ◌-◌, ◌*◌, ◌/◌, ◌%◌, ◌^◌, ◌<◌, ◌≤◌}
 use native.Mathlib.Numerals.{add-one}
 use native.Mathlib.Omega.{arith}
 use lib.Dec.{leb, ltb}
 use lib.ListN.{length, take, drop, get_or, set, replicate, length-append, length-drop, length-set, drop_of_length-le, get_or-eq_default}
-use lib.Seq.{length-take-le, take-suc, drop-cons, append_snoc, take-append_seam, drop-drop, drop-append-le, set_at, set_out}
+use lib.Seq.{length-take-le, append_snoc, take-append_seam, drop-drop, drop-append-le, set_out}
 use borrow.Author.Tests.{ltb-true, ltb-false, leb-true, leb-false}
 use Rattle.bits.specs.Bits.{bits, leading, bytes, bytes_for, pack, over, laid, Below}
 use Rattle.bits.specs.Reading.{Read, stop, Reader, bind, ◌>>=◌, field}
-use Rattle.bits.specs.Fields.{pick_field, field_at, read_of, put_bit, put_bits, ClearFrom, laid_at}
-use Rattle.bits.specs.declared.Field.{Field}
-use Rattle.bits.specs.declared.Field.TheVariants.{Value, Ended}
+use Rattle.bits.specs.Fields.{field_at, read_of, put_bit, put_bits, ClearFrom, laid_at}
 use Rattle.bits.proofs.Logic.{by_test}
 use Rattle.bits.proofs.Bits.{Bits, bits_are, drop_bits, length-bits, length-bytes, bits-bytes}
 use Rattle.bits.proofs.Leading.{leading_below, leading_front, leading_snoc, field_after_reads, field_after-stops, take-bytes}
@@ -34,24 +33,24 @@ field_reads n w at s p =
     (λ t. let h = leb-false (at + w) (length s * 8) t in rw t (field_after-stops n w 0 l (omega arith)))
 
 -- A reader that reads a field and goes on gives what the field at `at` leads to.
-pub field_then : {A : Type 0} (n w at : ℕ) (s : List ℕ) (f : ℕ → Reader A) (r : Field → Read A) → 0 < w → stop n ≡ r Ended
-    → ((v : ℕ) → f v (drop (at + w) (bits s)) ≡ r (Value v)) → (field n w >>= f) (drop at (bits s)) ≡ r (field_at s at w)
+pub field_then : {A : Type 0} (n w at : ℕ) (s : List ℕ) (f : ℕ → Reader A) (r : Option ℕ → Read A) → 0 < w → stop n ≡ r None
+    → ((v : ℕ) → f v (drop (at + w) (bits s)) ≡ r (Some v)) → (field n w >>= f) (drop at (bits s)) ≡ r (field_at s at w)
 unfolding ◌>>=◌ bind read_of
 field_then n w at s f r p e h = rw (field_reads n w at s p) (go (field_at s at w))
   where
-    go : (x : Field) → bind (read_of n (drop (at + w) (bits s)) x) f ≡ r x
-    go (Value v) = h v
-    go Ended = e
+    go : (x : Option ℕ) → bind (read_of n (drop (at + w) (bits s)) x) f ≡ r x
+    go (Some v) = h v
+    go None = e
 
 -- Its value is a number of w binary digits.
-pub field_below : (w at : ℕ) (s : List ℕ) {v : ℕ} → field_at s at w ≡ Value v → v < 2 ^ w
+pub field_below : (w at : ℕ) (s : List ℕ) {v : ℕ} → field_at s at w ≡ Some v → v < 2 ^ w
 unfolding field_at
 field_below w at s {v} e = go (leb (at + w) (length s * 8)) e
   where
     l : List ℕ
     l = drop at (bits s)
 
-    go : (t : Bool) → pick_field t (Value (leading w 0 l)) Ended ≡ Value v → v < 2 ^ w
+    go : (t : Bool) → cond t (Some (leading w 0 l)) None ≡ Some v → v < 2 ^ w
     go true q = let same : leading w 0 l ≡ v = cc in rw same at (leading_below w l (drop_bits at (bits s) (bits_are s)))
     go false q = let z : ◌≡◌ {A = ℕ} 0 1 = cc in absurd (omega arith)
 
@@ -129,22 +128,9 @@ clear_packed n at l s e f b h = rw (e, f) (clear_bytes n l b (omega arith))
 
 -- Writing a string at the start of a slice.
 
-over-take : (n : ℕ) (s lent : List ℕ) → n ≤ length s → over (take n s) lent ≡ take n s ++ drop n lent
+pub over-take : (n : ℕ) (s lent : List ℕ) → n ≤ length s → over (take n s) lent ≡ take n s ++ drop n lent
 unfolding over
 over-take n s lent h = rw (length-take-le n s h)
-
-pub over_none : (s lent : List ℕ) → over (take 0 s) lent ≡ lent
-unfolding over
-over_none s lent = refl
-
--- one byte more
-pub over_more : (i : ℕ) (s lent : List ℕ) → i < length s → i < length lent
-    → set (over (take i s) lent) i (get_or s i 0) ≡ over (take (i + 1) s) lent
-over_more i s lent p q =
-    let e = length-take-le i s (omega arith) in
-    let more : suc i ≤ length s = p in
-    rw (add-one i, over-take i s lent (omega arith), over-take (suc i) s lent more, drop-cons lent i 0 q, take-suc s i 0 p)
-    (set_at (take i s) _ _ _ i e ∙ sym (append_snoc (take i s) _ _))
 
 -- Writing as far as a slice reaches.
 

@@ -1,22 +1,16 @@
 -- A field at a position of a string of bytes, read and written. Assumes nothing.
-use Rattle.std.specs.Prelude.{◌≡◌, Bool, true, false, List, [], ◌∷◌, ◌++◌, ℕ, suc, ◌+◌, ◌-◌, ◌*◌, ◌/◌, ◌%◌, ◌^◌, leb, length, take, drop, get_or, set}
+use Rattle.std.specs.Prelude.{◌≡◌, cond, Option, Some, None, List, [], ◌∷◌, ◌++◌, ℕ, suc, ◌+◌, ◌-◌, ◌*◌, ◌/◌, ◌%◌, ◌^◌, leb, length, take, drop, get_or, set}
 use Rattle.bits.specs.Bits.{bits, leading, bytes, laid}
 use Rattle.bits.specs.Reading.{Read, got, stop}
-use Rattle.bits.specs.declared.Field.{Field}
-use Rattle.bits.specs.declared.Field.TheVariants.{Value, Ended}
 
-abbrev pub pick_field : Bool → Field → Field → Field
-pick_field true a b = a
-pick_field false a b = b
-
--- The field of w bits that starts at the bit `at`: its value, or `Ended` where the bytes end inside it.
-unfoldable pub field_at : List ℕ → ℕ → ℕ → Field
-field_at s at w = pick_field (leb (at + w) (length s * 8)) (Value (leading w 0 (drop at (bits s)))) Ended
+-- The field of w bits that starts at the bit `at`: its value, or none where the bytes end inside it.
+unfoldable pub field_at : List ℕ → ℕ → ℕ → Option ℕ
+field_at s at w = cond (leb (at + w) (length s * 8)) (Some (leading w 0 (drop at (bits s)))) None
 
 -- A field as a reader gives it: the value with the bits after the field, or the refusal n.
-unfoldable pub read_of : ℕ → List ℕ → Field → Read ℕ
-read_of n rest (Value v) = got v rest
-read_of n rest Ended = stop n
+unfoldable pub read_of : ℕ → List ℕ → Option ℕ → Read ℕ
+read_of n rest (Some v) = got v rest
+read_of n rest None = stop n
 
 -- The bit b added to a string of bytes at the bit i.
 unfoldable pub put_bit : List ℕ → ℕ → ℕ → List ℕ

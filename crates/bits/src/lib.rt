@@ -7,13 +7,6 @@ ghost use Rattle.std.specs.Prelude.{◌≡◌, ◌+◌, ◌*◌, ◌/◌, ◌^�
 ghost use Rattle.bits.specs.Bits.{digits, be16, over};
 ghost use Rattle.bits.specs.Fields.{put_bits, ClearFrom, laid_at};
 
-// What reading a field gives: its value, or that the bytes end inside it.
-#[derive(Clone, Copy)]
-pub enum Field {
-    Value(usize),
-    Ended,
-}
-
 // A number put as a field of `width` bits at the bit `at` of a buffer that is zero from there on.
 pub fn put(buf: &mut [u8], at: usize, width: usize, value: usize)
     requires width_bound { width ≤ 20 }
@@ -33,15 +26,11 @@ pub fn put(buf: &mut [u8], at: usize, width: usize, value: usize)
 
 // The first n bytes of `src` written at the start of `dst`.
 pub fn copy_front(src: &[u8], n: usize, dst: &mut [u8])
-    requires n_in_bounds { n ≤ length src.now }
-    requires n_in_bounds_2 { n ≤ length dst.old }
+    requires of_source { n ≤ length src.now }
+    requires room { n ≤ length dst.old }
     ensures { dst.new ≡ over (take n src.now) dst.old }
 {
-    let mut i = 0;
-    while i < n {
-        dst[i] = src[i];
-        i += 1;
-    }
+    dst[..n].copy_from_slice(&src[..n]);
 }
 
 // A number in 16 bits, most significant byte first, written at the place of the number `index` as far as the slice reaches.
@@ -53,9 +42,7 @@ pub fn lay16(buf: &mut [u8], index: usize, value: usize)
     if at + 1 < buf.len() {
         buf[at] = (value / 256 % 256) as u8;
         buf[at + 1] = (value % 256) as u8;
-    } else {
-        if at < buf.len() {
-            buf[at] = (value / 256 % 256) as u8;
-        }
+    } else if at < buf.len() {
+        buf[at] = (value / 256 % 256) as u8;
     }
 }

@@ -7,87 +7,75 @@ use native.Mathlib.Nat.{mul-le-mul_left}
 use native.Mathlib.Omega.{arith}
 use lib.ListN.{take, drop, set}
 use lib.Seq.{take-take, drop-drop}
-use borrow.Author.Tests.{le-leb, lt-leb, eq-eqb, ne_eqb}
+use Rattle.std.proofs.Common.{Some, None, Ok, Err}
 use Rattle.grammar.specs.Note.{repeated}
 use Rattle.mixing.specs.declared.Place.{Place}
 use Rattle.mixing.specs.Room.{capped}
 use Rattle.mixing.proofs.Room.{room, no_room}
-use Rattle.pieces.specs.Pieces.{begins_with, first_digit, digits_from, count_at}
+use Rattle.pieces.specs.Pieces.{begins_with, first_digit, malformed, count_at}
 use Rattle.pieces.specs.declared.Counted.{Counted}
+use Rattle.pieces.specs.declared.Met.{Met}
 use Rattle.building.specs.declared.Piece.{Piece}
-use Rattle.building.specs.Building.{refused_piece, block_at, block_laid, closed_at, counted_at, counted_line}
+use Rattle.building.specs.Building.{number_at, block_at, block_laid, closed_at, counted_at, counted_line}
 
 -- a block number that begins with the digit d
-module _ (t : List ℕ) (at d : ℕ) (e : d ≡ first_digit (drop at t)) where
-  pub block-number : d ≤ 9 → block_at t at ≡ record { number = 0; at = (digits_from 511 d (at + 1) (drop (at + 1) t)).at; count = 1 }
+module _ (t : List ℕ) (at d : ℕ) where
+  pub block-number : first_digit (drop at t) ≡ Some d → block_at t at ≡ Ok (record { at = (number_at t at d).at; count = 1 })
   unfolding block_at
-  block-number h = rw (← e, le-leb d 9 h)
+  block-number e = rw e
 
-  pub block_none : 9 < d → block_at t at ≡ refused_piece 22 at
-  unfolding block_at
-  block_none h = rw (← e, lt-leb d 9 h)
+pub block_none : (t : List ℕ) (at : ℕ) → first_digit (drop at t) ≡ None → block_at t at ≡ Err (malformed at)
+unfolding block_at
+block_none t at e = rw e
 
 -- and that block at the end of the line
-module _ (t : List ℕ) (from : Place) (line : List ℕ) (d : ℕ) (e : d ≡ first_digit (drop from.at t)) where
-  pub laid-number : d ≤ 9 → from.line + from.left + 1 ≤ 2048
-      → block_laid t from line ≡ set line from.line (digits_from 511 d (from.at + 1) (drop (from.at + 1) t)).value
+module _ (t : List ℕ) (from : Place) (line : List ℕ) where
+  pub laid-number : (d : ℕ) → first_digit (drop from.at t) ≡ Some d → from.line + from.left + 1 ≤ 2048
+      → block_laid t from line ≡ set line from.line (number_at t from.at d).value
   unfolding block_laid
-  laid-number h k = rw (← e, le-leb d 9 h, room from 1 k)
+  laid-number d e k = rw (e, room from 1 k)
 
-  pub laid-full : d ≤ 9 → 2048 < from.line + from.left + 1 → block_laid t from line ≡ line
+  pub laid-full : (d : ℕ) → first_digit (drop from.at t) ≡ Some d → 2048 < from.line + from.left + 1 → block_laid t from line ≡ line
   unfolding block_laid
-  laid-full h k = rw (← e, le-leb d 9 h, no_room from 1 k)
+  laid-full d e k = rw (e, no_room from 1 k)
 
-  pub laid_none : 9 < d → block_laid t from line ≡ line
+  pub laid_none : first_digit (drop from.at t) ≡ None → block_laid t from line ≡ line
   unfolding block_laid
-  laid_none h = rw (← e, lt-leb d 9 h)
+  laid_none e = rw e
 
 -- a note in parentheses, and a part with its count
 module _ (t : List ℕ) (p : Piece) where
-  pub closed-refused : (p.number ≡ 0 → ⊥) → closed_at t p ≡ p
+  pub closed_paren : begins_with 41 (drop p.at t) ≡ true → closed_at t p ≡ Ok (record { at = p.at + 1; count = p.count })
   unfolding closed_at
-  closed-refused h = rw (ne_eqb p.number 0 h)
+  closed_paren b = rw b
 
-  pub closed_paren : p.number ≡ 0 → begins_with 41 (drop p.at t) ≡ true → closed_at t p ≡ record { number = 0; at = p.at + 1; count = p.count }
+  pub closed_wrong : begins_with 41 (drop p.at t) ≡ false → closed_at t p ≡ Err (malformed p.at)
   unfolding closed_at
-  closed_paren h b = rw (eq-eqb p.number 0 h, b)
+  closed_wrong b = rw b
 
-  pub closed_wrong : p.number ≡ 0 → begins_with 41 (drop p.at t) ≡ false → closed_at t p ≡ refused_piece 22 p.at
-  unfolding closed_at
-  closed_wrong h b = rw (eq-eqb p.number 0 h, b)
-
-  pub counted-refused : (p.number ≡ 0 → ⊥) → counted_at t p ≡ p
+  pub counted_wrong : {m : Met} → count_at t p.at ≡ Err m → counted_at t p ≡ Err m
   unfolding counted_at
-  counted-refused h = rw (ne_eqb p.number 0 h)
+  counted_wrong e = rw e
 
-  pub line_refused : (from : Place) (line : List ℕ) → (p.number ≡ 0 → ⊥) → counted_line t p from line ≡ line
-  unfolding counted_line
-  line_refused from line h = rw (ne_eqb p.number 0 h)
-
-module _ (t : List ℕ) (p : Piece) (h : p.number ≡ 0) (c : Counted) (e : c ≡ count_at t p.at) where
-  pub counted_wrong : (c.number ≡ 0 → ⊥) → counted_at t p ≡ refused_piece c.number c.at
+  pub counted-times : {c : Counted} → count_at t p.at ≡ Ok c → counted_at t p ≡ Ok (record { at = c.at; count = capped (p.count * c.times) })
   unfolding counted_at
-  counted_wrong k = rw (← e, eq-eqb p.number 0 h, ne_eqb c.number 0 k)
-
-  pub counted-times : c.number ≡ 0 → counted_at t p ≡ record { number = 0; at = c.at; count = capped (p.count * c.times) }
-  unfolding counted_at
-  counted-times k = rw (← e, eq-eqb p.number 0 h, eq-eqb c.number 0 k)
+  counted-times e = rw e
 
   -- and the line with that part repeated
   module _ (from : Place) (line : List ℕ) where
-    pub line_wrong : (c.number ≡ 0 → ⊥) → counted_line t p from line ≡ line
+    pub line_wrong : {m : Met} → count_at t p.at ≡ Err m → counted_line t p from line ≡ line
     unfolding counted_line
-    line_wrong k = rw (← e, eq-eqb p.number 0 h, ne_eqb c.number 0 k)
+    line_wrong e = rw e
 
-    pub line_full : c.number ≡ 0 → 2048 < from.line + from.left + p.count * c.times → counted_line t p from line ≡ line
+    pub line_full : {c : Counted} → count_at t p.at ≡ Ok c → 2048 < from.line + from.left + p.count * c.times → counted_line t p from line ≡ line
     unfolding counted_line
-    line_full k r = rw (← e, eq-eqb p.number 0 h, eq-eqb c.number 0 k, no_room from (p.count * c.times) r)
+    line_full {c} e r = rw (e, no_room from (p.count * c.times) r)
 
-    pub line_times : c.number ≡ 0 → from.line + from.left + p.count * c.times ≤ 2048
+    pub line_times : {c : Counted} → count_at t p.at ≡ Ok c → from.line + from.left + p.count * c.times ≤ 2048
         → counted_line t p from line
         ≡ take from.line line ++ (repeated c.times (take p.count (drop from.line line)) ++ drop (from.line + p.count * c.times) line)
     unfolding counted_line
-    line_times k r = rw (← e, eq-eqb p.number 0 h, eq-eqb c.number 0 k, room from (p.count * c.times) r)
+    line_times {c} e r = rw (e, room from (p.count * c.times) r)
 
 -- a part of a slice, from a on, that is lent to a call and comes back as `new`, repeated
 pub part-repeated : (a one times : ℕ) (l new : List ℕ) → 1 ≤ times → new ≡ repeated times (take one (take (a + one * times - a) (drop a l)))

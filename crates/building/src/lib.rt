@@ -3,102 +3,63 @@
 #![tactic(auto)]
 
 ghost use Rattle.std.specs.Prelude.{◌≡◌, ◌≤◌, length};
-ghost use Rattle.building.specs.Building.{refused_piece, block_at, block_laid, closed_at, counted_at, counted_line};
+ghost use Rattle.building.specs.Building.{block_at, block_laid, closed_at, counted_at, counted_line};
 
 use mixing::Place;
+use pieces::Met;
 
-// A piece that was read: the place after it and the count of its references, 2049 for more than 2048; or the number of a refusal and where it is met.
+// A piece that was read: the place after it and the count of its references, 2049 for more than 2048.
 #[derive(Clone, Copy)]
 pub struct Piece {
-    pub number: usize,
     pub at: usize,
     pub count: usize,
 }
 
-// A refusal.
-pub fn refused_at(number: usize, at: usize) -> Piece
-    ensures { result ≡ refused_piece number at }
-{
-    Piece {
-        number,
-        at,
-        count: 0,
-    }
-}
-
-// A piece that was read up to a place.
-pub fn read_to(at: usize, count: usize) -> Piece
-    ensures { result ≡ record { number = 0; at = at; count = count } }
-{
-    Piece {
-        number: 0,
-        at,
-        count,
-    }
-}
-
 // A block number, and that block at the end of the line.
-pub fn read_block(text: &[u8], from: Place, line: &mut [u16]) -> Piece
+pub fn read_block(text: &[u8], from: Place, line: &mut [u16]) -> Result<Piece, Met>
     requires { (from.line ≤ 2049) × (from.left ≤ 2049) × (length line.old ≡ 2048) }
     ensures piece { result ≡ block_at text.now from.at }
     ensures laid { line.new ≡ block_laid text.now from line.old }
 {
     let at = from.at;
-    let first = pieces::digit_at(text, at);
-    if first <= 9 {
-        let n = pieces::number_from(text, at + 1, first, 511);
-        let place = from.line;
-        if place + from.left + 1 <= 2048 {
-            line[place] = n.value as u16;
-        }
-        return Piece {
-            number: 0,
-            at: n.at,
-            count: 1,
-        };
+    let Some(first) = pieces::digit_at(text, at) else {
+        return Err(pieces::malformed(at));
+    };
+    let n = pieces::number_from(text, at + 1, first, 511);
+    let place = from.line;
+    if place + from.left + 1 <= 2048 {
+        line[place] = n.value as u16;
     }
-    refused_at(22, at)
+    Ok(Piece { at: n.at, count: 1 })
 }
 
 // The parenthesis that closes a note.
-pub fn closed(text: &[u8], inner: Piece) -> Piece
+pub fn closed(text: &[u8], inner: Piece) -> Result<Piece, Met>
     ensures { result ≡ closed_at text.now inner }
 {
-    if inner.number != 0 {
-        return inner;
+    if !pieces::is_at(text, inner.at, b')') {
+        return Err(pieces::malformed(inner.at));
     }
-    if pieces::is_at(text, inner.at, b')') {
-        return Piece {
-            number: 0,
-            at: inner.at + 1,
-            count: inner.count,
-        };
-    }
-    refused_at(22, inner.at)
+    Ok(Piece {
+        at: inner.at + 1,
+        count: inner.count,
+    })
 }
 
 // A part with the count that follows it, repeated at the end of the line.
-pub fn counted(text: &[u8], part: Piece, from: Place, line: &mut [u16]) -> Piece
+pub fn counted(text: &[u8], part: Piece, from: Place, line: &mut [u16]) -> Result<Piece, Met>
     requires { (from.line ≤ 2049) × (from.left ≤ 2049) × (length line.old ≡ 2048) × (part.count ≤ 2049) }
     ensures piece { result ≡ counted_at text.now part }
     ensures repeats { line.new ≡ counted_line text.now part from line.old }
 {
-    if part.number != 0 {
-        return part;
-    }
-    let c = pieces::count_after(text, part.at);
-    if c.number != 0 {
-        return refused_at(c.number, c.at);
-    }
+    let c = pieces::count_after(text, part.at)?;
     let count = part.count * c.times;
     let begin = from.line;
     if begin + from.left + count <= 2048 {
-        let end = begin + count;
-        mixing::repeat(&mut line[begin..end], part.count, c.times);
+        mixing::repeat(&mut line[begin..begin + count], part.count, c.times);
     }
-    Piece {
-        number: 0,
+    Ok(Piece {
         at: c.at,
         count: mixing::cap(count),
-    }
+    })
 }

@@ -1,66 +1,56 @@
 -- The number of a block that is carried in: what its tests make of it, and that a reader reads it so. Assumes nothing.
-use mathlib.Core.Path.{◌≡◌, refl}
+use mathlib.Core.Path.{◌≡◌, refl, sym, ap, ◌∙◌}
 use mathlib.Core.Bool.{Bool, true, false, cond, not, ◌||◌}
 use mathlib.Core.List.{List}
-use Prim.Native.Nat.{ℕ, ◌+◌, ◌≤◌, ◌<◌}
+use Prim.Native.Nat.{ℕ, ◌+◌, ◌<◌}
 use native.Mathlib.Omega.{arith}
-use lib.Dec.{eqb, lit<, lit≤}
+use lib.Dec.{eqb, lit<}
 use lib.ListN.{length, get_or, drop}
 use borrow.Author.Tests.{eq-eqb, ne_eqb}
+use Rattle.std.specs.Prelude.{Result, Ok, Err}
+use Rattle.refusal.specs.declared.Refusal.{Refusal}
+use Rattle.refusal.specs.declared.Refusal.TheVariants.{CarriedBlock}
 use Rattle.bits.specs.Bits.{bits}
 use Rattle.bits.specs.Reading.{Reader, bind, ◌>>=◌, ◌>>◌, field, refuse_if}
 use Rattle.bits.proofs.Fields.{field_then}
 use Rattle.bits.proofs.Logic.{by_test}
 use Rattle.entries.specs.Parts.{outside, entry_of, entry_at, entry_then}
 use Rattle.carried.specs.Carried.{block_row, on_disk, block_at}
-use Rattle.entries.specs.declared.Entry.{Entry}
-use Rattle.entries.specs.declared.Entry.TheVariants.{Value as Held, Refused}
-use Rattle.entries.proofs.Entries.{entry-within, entry_numbered}
+use Rattle.entries.specs.declared.Row.{Row}
+use Rattle.entries.proofs.Entries.{entry-within}
+
+-- what was read, of a row that is known
+pub row_entry : (t : List ℕ) (at : ℕ) {r row : Row} {x y : Result ℕ Refusal} → r ≡ row → x ≡ entry_at t at r → x ≡ y → entry_at t at row ≡ y
+row_entry t at e f g = ap (entry_at t at) (sym e) ∙ sym f ∙ g
 
 module _ (t disks : List ℕ) (d at least : ℕ) where
   -- the tests, as the code makes them
 
-  pub block_own : {b : ℕ} → entry_at t at (block_row least (length disks)) ≡ Held b → get_or disks b 0 ≡ d → Held b ≡ block_at t disks d at least
+  pub block_own : {b : ℕ} → entry_at t at (block_row least (length disks)) ≡ Ok b → get_or disks b 0 ≡ d → Ok b ≡ block_at t disks d at least
   unfolding block_at on_disk
   block_own {b} e q = rw (e, eq-eqb (get_or disks b 0) d q) refl
 
-  pub block_other : {b : ℕ} → entry_at t at (block_row least (length disks)) ≡ Held b → (get_or disks b 0 ≡ d → ⊥)
-      → Refused 26 ≡ block_at t disks d at least
+  pub block_other : {b : ℕ} → entry_at t at (block_row least (length disks)) ≡ Ok b → (get_or disks b 0 ≡ d → ⊥)
+      → Err CarriedBlock ≡ block_at t disks d at least
   unfolding block_at on_disk
   block_other {b} e q = rw (e, ne_eqb (get_or disks b 0) d q) refl
 
-  pub block_refused : {n : ℕ} → entry_at t at (block_row least (length disks)) ≡ Refused n → Refused n ≡ block_at t disks d at least
+  pub block_refused : {n : Refusal} → entry_at t at (block_row least (length disks)) ≡ Err n → Err n ≡ block_at t disks d at least
   unfolding block_at on_disk
   block_refused e = rw e refl
 
-  -- a number that is read is that of a block, and a refusal has a number
-
-  pub block_within : {v : ℕ} → block_at t disks d at least ≡ Held v → v < length disks
+  -- a number that is read is that of a block
+  pub block_within : {v : ℕ} → block_at t disks d at least ≡ Ok v → v < length disks
   unfolding block_at on_disk
   block_within {v} e = go (entry_at t at (block_row least (length disks))) refl e
     where
-      tested : (b : ℕ) (own : Bool) → b < length disks → cond own (Held b) (Refused 26) ≡ Held v → v < length disks
+      tested : (b : ℕ) (own : Bool) → b < length disks → cond own (Ok b) (Err CarriedBlock) ≡ Ok v → v < length disks
       tested b true l p = let same : b ≡ v = cc in omega (arith, same, l)
-      tested b false l p = let z : ◌≡◌ {A = ℕ} 0 1 = cc in absurd (omega arith)
+      tested b false l p = absurd (let z : ◌≡◌ {A = ℕ} 0 1 = cc in omega arith)
 
-      go : (x : Entry) → entry_at t at (block_row least (length disks)) ≡ x → on_disk disks d x ≡ Held v → v < length disks
-      go (Held b) q p = tested b (eqb (get_or disks b 0) d) (entry-within t at (block_row least (length disks)) q).1 p
-      go (Refused n) q p = let z : ◌≡◌ {A = ℕ} 0 1 = cc in absurd (omega arith)
-
-  pub block_numbered : {n : ℕ} → block_at t disks d at least ≡ Refused n → 1 ≤ n
-  unfolding block_at on_disk
-  block_numbered {n} e = go (entry_at t at (block_row least (length disks))) refl e
-    where
-      tested : (b : ℕ) (own : Bool) → cond own (Held b) (Refused 26) ≡ Refused n → 1 ≤ n
-      tested b true p = let z : ◌≡◌ {A = ℕ} 0 1 = cc in absurd (omega arith)
-      tested b false p = let same : ◌≡◌ {A = ℕ} 26 n = cc in omega (arith, same)
-
-      go : (x : Entry) → entry_at t at (block_row least (length disks)) ≡ x → on_disk disks d x ≡ Refused n → 1 ≤ n
-      go (Held b) q p = tested b (eqb (get_or disks b 0) d) p
-      go (Refused m) q p =
-          let same : m ≡ n = cc in
-          let some = entry_numbered t at (block_row least (length disks)) (lit≤ tt) q in
-          omega (arith, same, some)
+      go : (x : Result ℕ Refusal) → entry_at t at (block_row least (length disks)) ≡ x → on_disk disks d x ≡ Ok v → v < length disks
+      go (Ok b) q p = tested b (eqb (get_or disks b 0) d) (entry-within t at (block_row least (length disks)) q).1 p
+      go (Err r) q p = absurd (let z : ◌≡◌ {A = ℕ} 0 1 = cc in omega arith)
 
   -- The field, and then its tests, as a reader reads them.
   pub block_reads : {A : Type 0} (more : ℕ → Reader A)

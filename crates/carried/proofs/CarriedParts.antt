@@ -5,19 +5,21 @@ use mathlib.Core.List.{List, [], ◌∷◌, map}
 use Prim.Native.Nat.{ℕ, suc, ◌+◌, ◌*◌, ◌≤◌}
 use native.Mathlib.Numerals.{add-one}
 use native.Mathlib.Omega.{arith}
-use lib.Dec.{ltb, leb, lit<, lit≤}
+use lib.Dec.{ltb, leb, lit<}
 use lib.ListN.{length, drop, set}
-use borrow.Author.Tests.{ne_eqb}
 use lib.Seq.{sets}
+use Rattle.std.specs.Prelude.{Ok, Err}
+use Rattle.refusal.specs.declared.Refusal.{Refusal}
+use Rattle.refusal.specs.Refusals.{number}
 use Rattle.bits.specs.Bits.{bits, Below}
 use Rattle.bits.specs.Reading.{Read, got, stop, ◌>>=◌, give}
 use Rattle.bits.proofs.Reading.{bind_ok, bind-give, bind-stop}
 use Rattle.model.specs.Ticket.{carried_blocks, carried_field, carried_fields}
-use Rattle.entries.specs.Parts.{outside, Filled, no_part}
+use Rattle.entries.specs.Parts.{outside, Filled}
 use Rattle.carried.specs.Carried.{carried_row, blocks_on, disk_part, Carried, carried_by, carried_parts}
 use Rattle.entries.specs.declared.Part.{Part}
 use Rattle.entries.proofs.Entries.{any_test}
-use Rattle.carried.proofs.Blocks.{block_reads, block_within, block_numbered}
+use Rattle.carried.proofs.Blocks.{block_reads, block_within}
 use Rattle.entries.proofs.Parts.{Reads, PartRead, whole, broken, part_reads}
 use Rattle.carried.proofs.Rows.{set_rows}
 
@@ -34,7 +36,6 @@ module _ (t disks : List ℕ) where
     none = λ at least. refl;
     one = λ at k least. block_reads t disks d at least (λ b. carried_blocks disks d k (suc b) >>= λ more. give (b ∷ more));
     below = λ at least e. block_within t disks d at least e;
-    numbered = λ at least e. block_numbered t disks d at least e;
   }
 
   disk_read : (at d slots : ℕ) (table : List ℕ)
@@ -43,31 +44,31 @@ module _ (t disks : List ℕ) where
   unfolding carried_field
   disk_read at d slots table =
       part_reads t at (carried_row slots) (blocks_on t disks d) (length disks) (d * 64) table (λ k. ltb slots k) (carried_blocks disks d)
-      (λ n vs. give vs) (λ k. carried_blocks disks d k 0) (lit< tt) (count_test slots) (lit≤ tt)
+      (λ n vs. give vs) (λ k. carried_blocks disks d k 0) (lit< tt) (count_test slots)
       (λ n l. bind-give (carried_blocks disks d n 0) l) (blocks_read d)
 
   -- a part that was read has no more blocks than slots, and ends within 583 bits: 7 for the count, 9 for each of at most 64 numbers
-  pub disk_bounds : (at d slots : ℕ) (table : List ℕ) {p : Part} → slots ≤ 64 → p ≡ (disk_part t disks at d slots table).part → p.number ≡ 0
+  pub disk_bounds : (at d slots : ℕ) (table : List ℕ) {p : Part} → slots ≤ 64 → (disk_part t disks at d slots table).part ≡ Ok p
       → (p.count ≤ 64) × (p.next ≤ at + 583)
-  disk_bounds at d slots table {p} few e z = go (disk_read at d slots table) e
+  disk_bounds at d slots table {p} few e = go (disk_read at d slots table) e
     where
-      go : {f : Filled} {l : Read (List ℕ)} → PartRead t at (carried_row slots) 9 (length disks) (d * 64) table (λ n vs. give vs) l f → p ≡ f.part
+      go : {f : Filled} {l : Read (List ℕ)} → PartRead t at (carried_row slots) 9 (length disks) (d * 64) table (λ n vs. give vs) l f → f.part ≡ Ok p
           → (p.count ≤ 64) × (p.next ≤ at + 583)
       go (whole count next vs least below len small pos g) q =
-          let c = ap (λ (x : Part). x.count) q in
-          let n = ap (λ (x : Part). x.next) q in
+          let c : count ≡ p.count = cc in
+          let n : next ≡ p.next = cc in
           (omega (arith, c, below, few), omega (arith, n, pos, below, few))
-      go (broken n left b g) q = let m = ap (λ (x : Part). x.number) q in absurd (omega (arith, m, b, z))
+      go (broken r left g) q = absurd (let z : ◌≡◌ {A = ℕ} 0 1 = cc in omega arith)
 
 -- The parts of all disks.
 
 -- What a reader of the parts from disk d on gives beside the two tables: both have all, or both end with the same refusal.
 pub data AllRead (t : List ℕ) (at d : ℕ) (slots held table : List ℕ) (l : Read (List (List ℕ))) : Carried → Type 0 where
-  complete : (lists : List (List ℕ)) (count next : ℕ) → next ≤ at + length slots * 583 → l ≡ got lists (drop next (bits t))
+  complete : (lists : List (List ℕ)) (next : ℕ) → next ≤ at + length slots * 583 → l ≡ got lists (drop next (bits t))
       → AllRead t at d slots held table l
-      (record { part = record { number = 0; count = count; next = next }; held = sets held d (map length lists); table = set_rows table d lists })
-  ended : (p : Part) (some left : List ℕ) → 1 ≤ p.number → l ≡ stop p.number
-      → AllRead t at d slots held table l (record { part = p; held = some; table = left })
+      (record { next = Ok next; held = sets held d (map length lists); table = set_rows table d lists })
+  ended : (r : Refusal) (some left : List ℕ) → l ≡ stop (number r)
+      → AllRead t at d slots held table l (record { next = Err r; held = some; table = left })
 
 module _ (t disks : List ℕ) where
   all_before : (at d slots next count : ℕ) (others held table vs : List ℕ) {l : Read (List (List ℕ))} {c : Carried} → next ≤ at + 583
@@ -76,35 +77,34 @@ module _ (t disks : List ℕ) where
       → AllRead t next (suc d) others (set held d count) (sets table (d * 64) vs) (carried_fields disks (suc d) others (drop next (bits t))) c
       → AllRead t at d (slots ∷ others) held table l c
   unfolding set_rows give
-  all_before at d slots next count others held table vs {l} near len e (complete lists n last pos g) =
+  all_before at d slots next count others held table vs {l} near len e (complete lists last pos g) =
       subst (λ (k : ℕ). AllRead t at d (slots ∷ others) held table l (record {
-        part = record { number = 0; count = n; next = last };
+        next = Ok last;
         held = sets (set held d k) (suc d) (map length lists);
         table = set_rows (sets table (d * 64) vs) (suc d) lists;
       })) len
-      (complete (vs ∷ lists) n last (omega (arith, near, pos)) (e ∙ bind_ok (carried_fields disks (suc d) others) _ _ g))
-  all_before at d slots next count others held table vs near len e (ended p some left b g) =
-      ended p some left b (e ∙ bind-stop (carried_fields disks (suc d) others) _ _ g)
+      (complete (vs ∷ lists) last (omega (arith, near, pos)) (e ∙ bind_ok (carried_fields disks (suc d) others) _ _ g))
+  all_before at d slots next count others held table vs near len e (ended r some left g) =
+      ended r some left (e ∙ bind-stop (carried_fields disks (suc d) others) _ _ g)
 
   all_step : (at d slots : ℕ) (others held table : List ℕ) {f : Filled} → slots ≤ 64
       → PartRead t at (carried_row slots) 9 (length disks) (d * 64) table (λ n vs. give vs) (carried_field disks d slots (drop at (bits t))) f
-      → ((p : Part) (left : List ℕ) → AllRead t p.next (suc d) others (set held d p.count) left
+      → ((p : Part) → AllRead t p.next (suc d) others (set held d p.count) f.table
       (carried_fields disks (suc d) others (drop p.next (bits t)))
-      (carried_parts t disks p.next (suc d) others (set held d p.count) left))
+      (carried_parts t disks p.next (suc d) others (set held d p.count) f.table))
       → AllRead t at d (slots ∷ others) held table (carried_fields disks d (slots ∷ others) (drop at (bits t)))
-      (carried_by f held λ p left. carried_parts t disks p.next (suc d) others (set held d p.count) left)
+      (carried_by f.part held f.table λ p. carried_parts t disks p.next (suc d) others (set held d p.count) f.table)
   unfolding carried_by carried_fields give
   all_step at d slots others held table few (whole count next vs least below len small pos g) more =
       all_before at d slots next count others held table vs (omega (arith, pos, below, few)) len (bind_ok (carried_field disks d slots) _ _ g)
-      (more (record { number = 0; count = count; next = next }) (sets table (d * 64) vs))
-  all_step at d slots others held table few (broken n left b g) more =
-      rw (ne_eqb n 0 (λ z. omega (arith, z, b))) (ended (no_part n) held left b (bind-stop (carried_field disks d slots) _ _ g))
+      (more (record { count = count; next = next }))
+  all_step at d slots others held table few (broken r left g) more = ended r held left (bind-stop (carried_field disks d slots) _ _ g)
 
   pub all_read : (at d : ℕ) (slots held table : List ℕ) → Below 65 slots
       → AllRead t at d slots held table (carried_fields disks d slots (drop at (bits t))) (carried_parts t disks at d slots held table)
   unfolding carried_parts carried_fields give set_rows
-  all_read at d [] held table small = complete [] d at (omega arith) refl
+  all_read at d [] held table small = complete [] at (omega arith) refl
   all_read at d (slots ∷ others) held table small =
       let few = small 0 (omega arith) in
       all_step at d slots others held table (omega (arith, few)) (disk_read t disks at d slots table)
-      (λ p left. all_read p.next (suc d) others (set held d p.count) left (λ i l. small (suc i) (omega arith)))
+      (λ p. all_read p.next (suc d) others (set held d p.count) (disk_part t disks at d slots table).table (λ i l. small (suc i) (omega arith)))

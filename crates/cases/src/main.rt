@@ -4,9 +4,11 @@
 // the same lines, each call followed by ` = ` and what it gives, in the vectors' form.
 #![tactic(auto)]
 
-ghost use Rattle.std.specs.Prelude.{◌≡◌, ◌≤◌, ◌<◌, IfOk, length};
+ghost use Rattle.std.specs.Prelude.{◌≡◌, ◌<◌, IfSome, length};
 
-use returning::{Counts, Mark, Planned, SlotCount, Which};
+use playing::Counts;
+use refusal::Refusal;
+use returning::{Mark, Planned, Which};
 use std::io;
 use std::io::Read;
 
@@ -20,137 +22,98 @@ fn write(rt: &HostRuntime, text: &[u8]) -> io::Result<()> {
     rt.write_all(text)
 }
 
-// The next byte of the input, 0 at its end. It is written out as well, but for a line feed: the answer comes before that.
-fn next(rt: &HostRuntime) -> io::Result<u8> {
+// The next byte of the input, if it has not ended; a byte 0 ends it too. It is written out as well, but for a line feed: the answer comes before
+// that.
+fn next(rt: &HostRuntime) -> io::Result<Option<u8>> {
     let mut one = [0u8; 1];
-    let got = rt.stdin().read(&mut one)?;
-    if got < 1 {
-        return Ok(0);
+    if rt.stdin().read(&mut one)? == 0 {
+        return Ok(None);
     }
     if one[0] != b'\n' {
         write(rt, &one)?;
     }
-    Ok(one[0])
+    Ok((one[0] != 0).then_some(one[0]))
 }
 
 // Reads on past the next byte `last`, or to the end.
 fn skip(rt: &HostRuntime, last: u8) -> io::Result<()> {
-    let mut turns = u64::MAX;
-    while turns > 0 {
-        let b = next(rt)?;
-        if b == last {
-            return Ok(());
+    for _ in 0..u64::MAX {
+        match next(rt)? {
+            Some(b) if b != last => {}
+            _ => break,
         }
-        if b == 0 {
-            return Ok(());
-        }
-        turns -= 1;
     }
     Ok(())
 }
 
-// The value of a hexadecimal digit, 16 for any other byte.
-fn digit(b: u8) -> u8
-    ensures { result ≤ 16 }
+// The value of a hexadecimal digit.
+fn digit(b: u8) -> Option<u8>
+    ensures { IfSome result (λ d. d < 16) }
 {
-    if b < b'0' {
-        return 16;
+    match b {
+        b'0'..=b'9' => Some(b - b'0'),
+        b'a'..=b'f' => Some(b - b'a' + 10),
+        _ => None,
     }
-    if b <= b'9' {
-        return b - b'0';
-    }
-    if b < b'a' {
-        return 16;
-    }
-    if b <= b'f' {
-        return b - 87;
-    }
-    16
 }
 
-// Reads a word of hexadecimal digits, or `-`, and the byte that ends it; how many bytes it put at the start of `out`.
-fn read_bytes(rt: &HostRuntime, out: &mut [u8]) -> io::Result<usize>
-    ensures { IfOk result (λ n. n ≤ length out.new) }
-{
-    let mut n = 0;
-    while n < out.len() {
-        let b = next(rt)?;
-        let high = digit(b);
-        if high == 16 {
-            if b == b'-' {
+// Reads a word of hexadecimal digits, or `-`, and the byte that ends it; the bytes that it put at the start of `out`.
+fn read_bytes<'a>(rt: &HostRuntime, out: &'a mut [u8]) -> io::Result<&'a [u8]> {
+    for (n, byte) in out.iter_mut().enumerate() {
+        let first = next(rt)?;
+        let Some(high) = first.and_then(digit) else {
+            if first == Some(b'-') {
                 next(rt)?;
             }
-            return Ok(n);
-        }
-        out[n] = high * 16 + digit(next(rt)?) % 16;
-        n += 1;
+            return Ok(&out[..n]);
+        };
+        *byte = high * 16 + next(rt)?.and_then(digit).unwrap_or(0);
     }
-    Ok(n)
-}
-
-// A number with one more decimal digit, or the largest if that does not hold it.
-fn with_digit(n: usize, d: usize) -> usize
-    requires { d ≤ 9 }
-{
-    if n > (usize::MAX - d) / 10 {
-        return usize::MAX;
-    }
-    n * 10 + d
+    Ok(out)
 }
 
 // Reads a decimal number of at most twenty digits, and the byte that ends it. A number above the largest is read as that.
 fn read_number(rt: &HostRuntime) -> io::Result<usize> {
-    let mut n = 0;
-    let mut left: usize = 21;
-    while left > 0 {
-        let d = digit(next(rt)?);
-        if d > 9 {
-            return Ok(n);
+    let mut n: usize = 0;
+    for _ in 0..21 {
+        match next(rt)? {
+            Some(b @ b'0'..=b'9') => n = n.saturating_mul(10).saturating_add(usize::from(b - b'0')),
+            _ => break,
         }
-        n = with_digit(n, d as usize);
-        left -= 1;
     }
     Ok(n)
 }
 
 // A space and a number.
 fn write_number(rt: &HostRuntime, n: usize) -> io::Result<()> {
-    write(rt, b" ")?;
-    print!(rt; "{n}")
+    print!(rt; " {n}")
 }
 
 // The rounds and the eight fetch counts.
-fn write_counts(rt: &HostRuntime, rounds: usize, fetches: [u16; 8]) -> io::Result<()> {
-    write_number(rt, rounds)?;
-    let mut d = 0;
-    while d < 8 {
-        write_number(rt, fetches[d] as usize)?;
-        d += 1;
+fn write_counts(rt: &HostRuntime, counts: Counts) -> io::Result<()> {
+    write_number(rt, counts.rounds)?;
+    let fetches = counts.fetches;
+    for n in fetches {
+        write_number(rt, usize::from(n))?;
     }
     Ok(())
 }
 
-// The start of a buffer up to the last byte that is not as it was filled: the whole sheet, unless that ends in the byte `FILL`.
-fn changed<'a>(lent: &'a [u8]) -> &'a [u8] {
-    let mut n = lent.len();
-    while n > 0 {
-        if lent[n - 1] != FILL {
-            return &lent[..n];
+// The start of a slice up to the last item that is not as it was filled: of a buffer the whole sheet, unless that ends in the byte `FILL`.
+fn changed<'a, T: PartialEq>(lent: &'a [T], fill: &T) -> &'a [T] {
+    let mut front = lent;
+    while let [start @ .., last] = front {
+        if last != fill {
+            break;
         }
-        n -= 1;
+        front = start;
     }
-    &lent[..0]
-}
-
-fn write_byte(rt: &HostRuntime, b: u8) -> io::Result<()> {
-    print!(rt; "{b:02x}")
+    front
 }
 
 fn write_bytes(rt: &HostRuntime, s: &[u8]) -> io::Result<()> {
-    let mut i = 0;
-    while i < s.len() {
-        write_byte(rt, s[i])?;
-        i += 1;
+    for b in s {
+        print!(rt; "{b:02x}")?;
     }
     Ok(())
 }
@@ -165,343 +128,202 @@ fn write_part(rt: &HostRuntime, which: &[u8], part: &[u8], sheet: &[u8]) -> io::
     Ok(())
 }
 
-// The rounds and fetches of a plan.
-fn write_plan(rt: &HostRuntime, plan: Counts) -> io::Result<()> {
-    let fetches = plan.fetches;
-    write(rt, b" |")?;
-    write_counts(rt, plan.rounds, fetches)
+// A filled buffer.
+fn filled<const N: usize>() -> [u8; N]
+    ensures { N ≡ length result }
+{
+    [FILL; N]
 }
 
-// Whether a count is not 0.
-fn some_count(rounds: usize, fetches: [u16; 8]) -> bool {
-    let mut found = rounds != 0;
-    let mut d = 0;
-    while d < 8 {
-        if fetches[d] != 0 {
-            found = true;
-        }
-        d += 1;
-    }
-    found
-}
-
-// The counts of a refused call, if they are not all 0: then nothing is written.
-fn write_left(rt: &HostRuntime, rounds: usize, fetches: [u16; 8]) -> io::Result<()> {
-    if some_count(rounds, fetches) {
-        write_counts(rt, rounds, fetches)?;
-    }
-    Ok(())
-}
-
-// What planning gave, and both buffers. After a refusal they are as they were filled, the part is empty and all counts are 0, so nothing of them is
-// written.
+// What planning gave, and both buffers. After a refusal they are as they were filled and the part is empty, so nothing of them is written.
 fn write_planned<'a>(
     rt: &HostRuntime,
-    p: Planned,
+    planned: Result<Planned, Refusal>,
     short: &'a [u8],
     sparing: &'a [u8],
 ) -> io::Result<()> {
-    write_number(rt, p.number)?;
-    let part = planner::part(short, sparing, p);
-    let a = p.short;
-    let b = p.sparing;
-    let mark = p.mark;
-    match mark {
-        Mark::Unmarked => {
-            let f = a.fetches;
-            let g = b.fetches;
-            write_left(rt, a.rounds, f)?;
-            write_left(rt, b.rounds, g)?;
+    let part = planner::part(short, sparing, planned);
+    let first = changed(short, &FILL);
+    let second = changed(sparing, &FILL);
+    match planned {
+        Err(refusal) => {
+            write_number(rt, refusal.number())?;
             write_bytes(rt, part)?;
-            write_bytes(rt, changed(short))?;
-            write_bytes(rt, changed(sparing))?;
-            return Ok(());
+            write_bytes(rt, first)?;
+            write_bytes(rt, second)
         }
-        Mark::Short => write_part(rt, b" 0", part, changed(short))?,
-        Mark::Sparing => write_part(rt, b" 1", part, changed(sparing))?,
+        Ok(p) => {
+            match p.mark {
+                Mark::Short => write_part(rt, b" 0 0", part, first)?,
+                Mark::Sparing => write_part(rt, b" 0 1", part, second)?,
+            }
+            write(rt, b" |")?;
+            write_counts(rt, p.short)?;
+            write(rt, b" |")?;
+            write_counts(rt, p.sparing)?;
+            write(rt, b" | ")?;
+            write_bytes(rt, first)?;
+            write(rt, b" | ")?;
+            write_bytes(rt, second)
+        }
     }
-    write_plan(rt, a)?;
-    write_plan(rt, b)?;
-    write(rt, b" | ")?;
-    write_bytes(rt, changed(short))?;
-    write(rt, b" | ")?;
-    write_bytes(rt, changed(sparing))
-}
-
-// Plans a ticket into two filled buffers.
-fn plan_into(
-    rt: &HostRuntime,
-    ticket: &[u8],
-    stop: usize,
-    short: &mut [u8],
-    sparing: &mut [u8],
-) -> io::Result<()> {
-    let p = planner::plan(ticket, stop, short, sparing);
-    write_planned(rt, p, short, sparing)
-}
-
-// Plans a ticket into three filled buffers. After a refusal the page's length is 0 and its buffer as it was filled, so nothing of it is written.
-fn page_into(
-    rt: &HostRuntime,
-    ticket: &[u8],
-    stop: usize,
-    short: &mut [u8],
-    sparing: &mut [u8],
-    page: &mut [u8],
-) -> io::Result<()> {
-    let g = planner::plan_with_page(ticket, stop, short, sparing, page);
-    let p = g.planned;
-    write_planned(rt, p, short, sparing)?;
-    if p.number == 0 {
-        write(rt, b" |")?;
-    }
-    if p.number == 0 || g.length != 0 {
-        write_number(rt, g.length)?;
-        write(rt, b" ")?;
-    }
-    write_bytes(rt, changed(page))
-}
-
-// As many bytes of a buffer as there are, at most n.
-fn within(n: usize, lent: &[u8]) -> usize
-    ensures { result ≤ length lent.now }
-{
-    if n < lent.len() {
-        return n;
-    }
-    lent.len()
-}
-
-// A filled buffer for a sheet, as long as the longest.
-fn sheet_buffer() -> [u8; 40962]
-    ensures { 40962 ≡ length result }
-{
-    [FILL; 40962]
 }
 
 // A line `plan`.
 fn plan_line(rt: &HostRuntime) -> io::Result<()> {
-    let mut ticket = [0u8; 4096];
-    let n = read_bytes(rt, &mut ticket)?;
+    let mut bytes = [0u8; 4096];
+    let ticket = read_bytes(rt, &mut bytes)?;
     let stop = read_number(rt)?;
-    let mut short = sheet_buffer();
-    let mut sparing = sheet_buffer();
-    let a = within(read_number(rt)?, &short);
-    let b = within(read_number(rt)?, &sparing);
+    let mut short = filled::<40962>();
+    let mut sparing = filled::<40962>();
+    let a = read_number(rt)?.min(short.len());
+    let b = read_number(rt)?.min(sparing.len());
     write(rt, b" =")?;
-    plan_into(rt, &ticket[..n], stop, &mut short[..a], &mut sparing[..b])
+    let planned = planner::plan(ticket, stop, &mut short[..a], &mut sparing[..b]);
+    write_planned(rt, planned, &short[..a], &sparing[..b])
 }
 
-// A filled buffer with more bytes than the longest page.
-fn page_buffer() -> [u8; 278630]
-    ensures { 278630 ≡ length result }
-{
-    [FILL; 278630]
-}
-
-// A line `page`.
+// A line `page`. After a refusal the page's buffer is as it was filled, so nothing of it is written.
 fn page_line(rt: &HostRuntime) -> io::Result<()> {
-    let mut ticket = [0u8; 4096];
-    let n = read_bytes(rt, &mut ticket)?;
+    let mut bytes = [0u8; 4096];
+    let ticket = read_bytes(rt, &mut bytes)?;
     let stop = read_number(rt)?;
-    let mut short = sheet_buffer();
-    let mut sparing = sheet_buffer();
-    let mut page = page_buffer();
-    let a = within(read_number(rt)?, &short);
-    let b = within(read_number(rt)?, &sparing);
-    let c = within(read_number(rt)?, &page);
+    let mut short = filled::<40962>();
+    let mut sparing = filled::<40962>();
+    // more bytes than the longest page
+    let mut page = filled::<278630>();
+    let a = read_number(rt)?.min(short.len());
+    let b = read_number(rt)?.min(sparing.len());
+    let c = read_number(rt)?.min(page.len());
     write(rt, b" =")?;
-    page_into(
-        rt,
-        &ticket[..n],
+    let paged = planner::plan_with_page(
+        ticket,
         stop,
         &mut short[..a],
         &mut sparing[..b],
         &mut page[..c],
-    )
+    );
+    write_planned(rt, paged.map(|p| p.planned), &short[..a], &sparing[..b])?;
+    if let Ok(p) = paged {
+        write(rt, b" |")?;
+        write_number(rt, p.length)?;
+        write(rt, b" ")?;
+    }
+    write_bytes(rt, changed(&page[..c], &FILL))
 }
 
 // A line `check`.
 fn check_line(rt: &HostRuntime) -> io::Result<()> {
-    let mut ticket = [0u8; 4096];
-    let n = read_bytes(rt, &mut ticket)?;
+    let mut bytes = [0u8; 4096];
+    let ticket = read_bytes(rt, &mut bytes)?;
     let stop = read_number(rt)?;
-    let mut sheet = [0u8; 65536];
-    let m = read_bytes(rt, &mut sheet)?;
+    let mut buffer = [0u8; 65536];
+    let sheet = read_bytes(rt, &mut buffer)?;
     write(rt, b" =")?;
-    let c = planner::check(&ticket[..n], stop, &sheet[..m]);
-    write_number(rt, c.number)?;
-    let f = c.fetches;
-    if c.number == 0 {
-        write_counts(rt, c.rounds, f)?;
-    } else {
-        write_left(rt, c.rounds, f)?;
-    }
-    Ok(())
-}
-
-// The choice between two sheets. After a refusal neither is handed back, so nothing more is written.
-fn choose_between<'a>(
-    rt: &HostRuntime,
-    ticket: &[u8],
-    stop: usize,
-    first: &'a [u8],
-    second: &'a [u8],
-) -> io::Result<()> {
-    let c = planner::choose(ticket, stop, first, second);
-    write_number(rt, c.number)?;
-    let sheet = planner::chosen_sheet(first, second, c);
-    let which = c.which;
-    match which {
-        Which::Neither => {
-            if c.length != 0 {
-                write_number(rt, c.length)?;
-            }
-            write_bytes(rt, sheet)?;
+    match planner::check(ticket, stop, sheet) {
+        Err(refusal) => write_number(rt, refusal.number()),
+        Ok(counts) => {
+            write(rt, b" 0")?;
+            write_counts(rt, counts)
         }
-        Which::First => write_part(rt, b" 0", sheet, first)?,
-        Which::Second => write_part(rt, b" 1", sheet, second)?,
     }
-    Ok(())
 }
 
-// A line `choose`.
+// A line `choose`. After a refusal neither sheet is handed back, so nothing more is written.
 fn choose_line(rt: &HostRuntime) -> io::Result<()> {
-    let mut ticket = [0u8; 4096];
-    let n = read_bytes(rt, &mut ticket)?;
+    let mut bytes = [0u8; 4096];
+    let ticket = read_bytes(rt, &mut bytes)?;
     let stop = read_number(rt)?;
-    let mut first = [0u8; 65536];
-    let m = read_bytes(rt, &mut first)?;
-    let mut second = [0u8; 65536];
-    let k = read_bytes(rt, &mut second)?;
+    let mut buffer = [0u8; 65536];
+    let first = read_bytes(rt, &mut buffer)?;
+    let mut other = [0u8; 65536];
+    let second = read_bytes(rt, &mut other)?;
     write(rt, b" =")?;
-    choose_between(rt, &ticket[..n], stop, &first[..m], &second[..k])
+    let chosen = planner::choose(ticket, stop, first, second);
+    let sheet = planner::chosen_sheet(first, second, chosen);
+    match chosen {
+        Err(refusal) => {
+            write_number(rt, refusal.number())?;
+            write_bytes(rt, sheet)
+        }
+        Ok(c) => match c.which {
+            Which::First => write_part(rt, b" 0 0", sheet, first),
+            Which::Second => write_part(rt, b" 0 1", sheet, second),
+        },
+    }
 }
 
 // Whether the first field of a sheet says so many rounds.
 fn says_rounds(sheet: &[u8], rounds: usize) -> bool {
-    if sheet.len() < 2 {
-        return false;
+    match sheet {
+        [a, b, ..] => usize::from(*a) * 16 + usize::from(*b) / 16 == rounds,
+        _ => false,
     }
-    if 4095 < rounds {
-        return false;
-    }
-    sheet[0] == (rounds / 16) as u8 && sheet[1] / 16 == (rounds % 16) as u8
 }
 
-// The least slots of a disk, into a filled buffer. After a refusal, and where there is none, the buffer is as it was filled, the part is empty and
-// all counts are 0, so nothing of them is written.
-fn slots_into(
-    rt: &HostRuntime,
-    ticket: &[u8],
-    stop: usize,
-    disk: usize,
-    wanted: usize,
-    short: &mut [u8],
-) -> io::Result<()> {
-    let least = planner::least_slots(ticket, stop, disk, wanted, short);
-    write_number(rt, least.number)?;
-    let part = planner::slots_part(short, least);
-    let sheet = changed(short);
-    let counts = least.counts;
-    let fetches = counts.fetches;
-    let slots = least.slots;
-    match slots {
-        SlotCount::Unanswered => {}
-        SlotCount::NoCount => write(rt, b" none")?,
-        SlotCount::Slots(s) => {
-            write_number(rt, s)?;
+// A line `slots`. After a refusal, and where there is none, the buffer is as it was filled and the part is empty, so nothing of them is written.
+fn slots_line(rt: &HostRuntime) -> io::Result<()> {
+    skip(rt, b' ')?;
+    let mut bytes = [0u8; 4096];
+    let ticket = read_bytes(rt, &mut bytes)?;
+    let stop = read_number(rt)?;
+    let disk = read_number(rt)?;
+    let wanted = read_number(rt)?;
+    let mut short = filled::<40962>();
+    let a = read_number(rt)?.min(short.len());
+    write(rt, b" =")?;
+    let least = planner::least_slots(ticket, stop, disk, wanted, &mut short[..a]);
+    let part = planner::slots_part(&short[..a], least);
+    let sheet = changed(&short[..a], &FILL);
+    match least {
+        Err(refusal) => write_number(rt, refusal.number())?,
+        Ok(None) => write(rt, b" 0 none")?,
+        Ok(Some(l)) => {
+            write(rt, b" 0")?;
+            write_number(rt, l.slots)?;
             write_part(rt, b"", part, sheet)?;
             write(rt, b" ")?;
             write_bytes(rt, sheet)?;
-            if !says_rounds(part, counts.rounds) {
+            if !says_rounds(part, l.counts.rounds) {
                 write(rt, b" of other rounds")?;
             }
             return Ok(());
         }
     }
-    write_left(rt, counts.rounds, fetches)?;
     write_bytes(rt, part)?;
     write_bytes(rt, sheet)
 }
 
-// A line `slots`.
-fn slots_line(rt: &HostRuntime) -> io::Result<()> {
-    skip(rt, b' ')?;
-    let mut ticket = [0u8; 4096];
-    let n = read_bytes(rt, &mut ticket)?;
-    let stop = read_number(rt)?;
-    let disk = read_number(rt)?;
-    let wanted = read_number(rt)?;
-    let mut short = sheet_buffer();
-    let a = within(read_number(rt)?, &short);
-    write(rt, b" =")?;
-    slots_into(rt, &ticket[..n], stop, disk, wanted, &mut short[..a])
-}
-
-// The start of a slice up to the last entry that is not as it was filled.
-fn changed_entries<'a>(lent: &'a [u16]) -> &'a [u16] {
-    let mut n = lent.len();
-    while n > 0 {
-        if lent[n - 1] != EMPTY {
-            return &lent[..n];
-        }
-        n -= 1;
-    }
-    &lent[..0]
-}
-
-fn write_entries(rt: &HostRuntime, s: &[u16]) -> io::Result<()> {
-    let mut i = 0;
-    while i < s.len() {
-        write_number(rt, s[i] as usize)?;
-        i += 1;
-    }
-    Ok(())
-}
-
-// Reads a note into a filled slice. After a refusal the count is 0 and the slice as it was filled, so nothing of them is written. An entry that was
-// written past the count, or by a refused call, shows.
-fn note_into(rt: &HostRuntime, text: &[u8], lent: &mut [u16]) -> io::Result<()> {
-    let r = notes::read(text, lent);
-    write_number(rt, r.number)?;
-    if r.number == 0 || r.count != 0 {
-        write_number(rt, r.count)?;
-    }
-    write_entries(rt, changed_entries(lent))
-}
-
-// As many entries of a slice as there are, at most n.
-fn within_entries(n: usize, lent: &[u16]) -> usize
-    ensures { result ≤ length lent.now }
-{
-    if n < lent.len() {
-        return n;
-    }
-    lent.len()
-}
-
-// A line `note`. At most 4,096 entries are lent, twice as many as a note can have references.
+// A line `note`. At most 4,096 entries are lent, twice as many as a note can have references. An entry that was written past the count, or by a
+// refused call, shows.
 fn note_line(rt: &HostRuntime) -> io::Result<()> {
     skip(rt, b' ')?;
-    let mut text = [0u8; 65536];
-    let n = read_bytes(rt, &mut text)?;
+    let mut buffer = [0u8; 65536];
+    let text = read_bytes(rt, &mut buffer)?;
     let mut lent = [EMPTY; 4096];
-    let a = within_entries(read_number(rt)?, &lent);
+    let a = read_number(rt)?.min(lent.len());
     write(rt, b" =")?;
-    note_into(rt, &text[..n], &mut lent[..a])
+    match notes::read(text, &mut lent[..a]) {
+        Err(refusal) => write_number(rt, refusal.number())?,
+        Ok(count) => {
+            write(rt, b" 0")?;
+            write_number(rt, count)?;
+        }
+    }
+    for entry in changed(&lent[..a], &EMPTY) {
+        write_number(rt, usize::from(*entry))?;
+    }
+    Ok(())
 }
 
 // A line `plan` or `page`, after its first letter; the second tells them apart.
 fn planning_line(rt: &HostRuntime) -> io::Result<()> {
     let second = next(rt)?;
     skip(rt, b' ')?;
-    if second == b'a' {
-        page_line(rt)?;
-    } else {
-        plan_line(rt)?;
+    match second {
+        Some(b'a') => page_line(rt),
+        _ => plan_line(rt),
     }
-    Ok(())
 }
 
 // A line `check` or `choose`, after its first letter; the third tells them apart.
@@ -509,39 +331,31 @@ fn sheet_line(rt: &HostRuntime) -> io::Result<()> {
     next(rt)?;
     let third = next(rt)?;
     skip(rt, b' ')?;
-    if third == b'o' {
-        choose_line(rt)?;
-    } else {
-        check_line(rt)?;
+    match third {
+        Some(b'o') => choose_line(rt),
+        _ => check_line(rt),
     }
-    Ok(())
 }
 
 // One line; whether there was one.
 fn line(rt: &HostRuntime) -> io::Result<bool> {
-    let b = next(rt)?;
-    if b == 0 {
-        return Ok(false);
-    }
-    if b == b'p' {
-        planning_line(rt)?;
-    } else if b == b'c' {
-        sheet_line(rt)?;
-    } else if b == b'n' {
-        note_line(rt)?;
-    } else if b == b's' {
-        slots_line(rt)?;
-    } else {
-        skip(rt, b'\n')?;
+    match next(rt)? {
+        None => return Ok(false),
+        Some(b'p') => planning_line(rt)?,
+        Some(b'c') => sheet_line(rt)?,
+        Some(b'n') => note_line(rt)?,
+        Some(b's') => slots_line(rt)?,
+        Some(_) => skip(rt, b'\n')?,
     }
     write(rt, b"\n")?;
     Ok(true)
 }
 
 fn main(rt: HostRuntime) -> io::Result<()> {
-    let mut turns = u64::MAX;
-    while turns > 0 && line(&rt)? {
-        turns -= 1;
+    for _ in 0..u64::MAX {
+        if !line(&rt)? {
+            break;
+        }
     }
     Ok(())
 }

@@ -10,12 +10,11 @@ use lib.Dec.{ltb}
 use lib.ListN.{length, get_or, drop, replicate, length-set, get_or-replicate}
 use lib.Seq.{get_or-set_same, get_or-set_other}
 use borrow.Author.Tests.{lt-ltb, le-ltb, ltb-false}
+use Rattle.std.specs.Prelude.{Option, Some, None}
 use Rattle.bits.specs.Bits.{bits}
 use Rattle.bits.specs.Reading.{Answer, given, refused, Read, got, stop, Reader, bind, ◌>>=◌, ◌>>◌, give, field, refuse_if, is_closed, closing, answer, read_all}
 use Rattle.bits.proofs.Reading.{closing_is}
 use Rattle.bits.specs.Fields.{field_at, read_of}
-use Rattle.bits.specs.declared.Field.{Field}
-use Rattle.bits.specs.declared.Field.TheVariants.{Value, Ended}
 use Rattle.bits.proofs.Logic.{by_test}
 use Rattle.bits.proofs.Fields.{field_reads}
 use Rattle.model.specs.Job.{Job, disk_count, ref_count}
@@ -226,16 +225,16 @@ rest_goes j r s =
     ∙ sym (rounds-played j r (start j) 0 (replicate 8 0) l)
 
 -- The answer to a sheet whose round count was read.
-answered : Job → List ℕ → Field → Answer Counts
+answered : Job → List ℕ → Option ℕ → Answer Counts
 unfolding played
-answered j s (Value r) = cond (ltb 2048 r) (refused 10) (played j r s)
-answered j s Ended = refused 9
+answered j s (Some r) = cond (ltb 2048 r) (refused 10) (played j r s)
+answered j s None = refused 9
 
-count_goes : (j : Job) (s : List ℕ) (f : Field)
+count_goes : (j : Job) (s : List ℕ) (f : Option ℕ)
     → go_on (read_of 9 (drop 12 (bits s)) f) (λ r rest. go_on ((refuse_if 10 (ltb 2048 r) >> rounds_rest j r) rest) (passed j)) ≡ answered j s f
 unfolding go_on read_of ◌>>◌ bind refuse_if answered
-count_goes j s (Value r) = by_test (ltb 2048 r) (λ t. rw t) (λ t. rw t (rest_goes j r s))
-count_goes j s Ended = refl
+count_goes j s (Some r) = by_test (ltb 2048 r) (λ t. rw t) (λ t. rw t (rest_goes j r s))
+count_goes j s None = refl
 
 check_answers : (j : Job) (s : List ℕ) → pass_of j (schedule_read j s) ≡ answered j s (field_at s 0 12)
 unfolding schedule_read read_all sheet_reader ◌>>=◌ rounds_rest
@@ -247,14 +246,14 @@ check_answers j s =
 
 -- The three ways from the round count on.
 module _ (j : Job) (s : List ℕ) where
-  pub check_ended : field_at s 0 12 ≡ Ended → pass_of j (schedule_read j s) ≡ refused 9
+  pub check_ended : field_at s 0 12 ≡ None → pass_of j (schedule_read j s) ≡ refused 9
   unfolding answered
   check_ended e = check_answers j s ∙ ap (answered j s) e
 
-  pub check_long : (r : ℕ) → field_at s 0 12 ≡ Value r → 2048 < r → pass_of j (schedule_read j s) ≡ refused 10
+  pub check_long : (r : ℕ) → field_at s 0 12 ≡ Some r → 2048 < r → pass_of j (schedule_read j s) ≡ refused 10
   unfolding answered
   check_long r e l = check_answers j s ∙ ap (answered j s) e ∙ rw (lt-ltb 2048 r l)
 
-  pub check_plays : (r : ℕ) → field_at s 0 12 ≡ Value r → r ≤ 2048 → pass_of j (schedule_read j s) ≡ played j r s
+  pub check_plays : (r : ℕ) → field_at s 0 12 ≡ Some r → r ≤ 2048 → pass_of j (schedule_read j s) ≡ played j r s
   unfolding answered
   check_plays r e l = check_answers j s ∙ ap (answered j s) e ∙ rw (le-ltb 2048 r l)

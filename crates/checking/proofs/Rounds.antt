@@ -7,16 +7,16 @@ use Prim.Native.Nat.{ℕ, suc, ◌+◌, ◌-◌, ◌*◌, ◌≤◌, ◌<◌}
 use native.Mathlib.Numerals.{add-one}
 use native.Mathlib.Omega.{arith}
 use lib.Dec.{ltb, leb, eqb}
-use lib.ListN.{length, get_or, set, drop, replicate, length-set, drop_of_length-le}
+use lib.ListN.{length, get_or, set, drop, replicate, take, length-set, drop_of_length-le}
 use lib.Seq.{get_or-set_same, get_or-set_other, drop-cons}
 use borrow.Author.Tests.{eqb-true, eqb-false, lt-ltb, le-ltb}
 use Rattle.bits.specs.Bits.{bits}
-use Rattle.bits.specs.Reading.{Answer, refused, got}
+use Rattle.bits.specs.Reading.{Answer, got}
 use Rattle.bits.proofs.Logic.{by_test, get_d_same}
 use Rattle.bits.proofs.Bits.{bits_are, drop_bits}
 use Rattle.job.specs.Meaning.{job_of, Fits}
 use Rattle.job.specs.declared.Job.{Job as Stored}
-use Rattle.job.proofs.Laws.{disks_are, blocks_are, refs_are, slots_at, disk-at, ref-at}
+use Rattle.job.proofs.Laws.{disks_are, blocks_are, refs_are, slots_at, ref-at}
 use Rattle.model.specs.Job.{Job, disk_count, block_count, ref_count, slots_of, disk_of}
 use Rattle.model.specs.Playing.{Action, fetch, replace, State, start, is_resident, load, act, consumed}
 use Rattle.model.specs.Sheet.{action_reader}
@@ -29,18 +29,22 @@ use Rattle.playing.specs.Playing.{start_buffers, fetch_into, replace_in, consume
 use Rattle.playing.proofs.Started.{holds-start}
 use Rattle.playing.proofs.Laws.{holds_same, holds-some, holds-fetch, holds-replace, holds_consume}
 use Rattle.actions.specs.Actions.{action_at, act_read}
+use Rattle.std.specs.Prelude.{Result, Ok, Err}
+use Rattle.refusal.specs.declared.Refusal.{Refusal}
+use Rattle.refusal.proofs.Numbers.{refusal_of-number}
+use Rattle.playing.specs.declared.Counts.{Counts as Taken}
 use Rattle.actions.specs.declared.Act.{Act}
-use Rattle.actions.specs.declared.Act.TheVariants.{Idle, Fetch, Replace, Refused}
+use Rattle.actions.specs.declared.Act.TheVariants.{Idle, Fetch, Replace}
 use Rattle.actions.proofs.Laws.{action_reads}
-use Rattle.checking.specs.Checking.{counted, go_on, end_of, disks_from, after_reading, charged_after, rounds_from, played}
+use Rattle.checking.specs.Checking.{checked_of, counted, go_on, end_of, disks_from, after_reading, charged_after, rounds_from, played}
 
 -- The state of the model that the buffers hold in round k.
 abbrev pub state_of : Buffers → ℕ → State
 state_of b k = record { resident = b.resident; next = b.next; round = k }
 
 -- The action of disk d at the bit `at`.
-abbrev pub action_here : Stored → List ℕ → Buffers → ℕ → ℕ → Act
-action_here c s b at d = action_at s at c.blocks c.disk b.resident d (leb (get_or c.slots d 0) (get_or b.held d 0))
+abbrev pub action_here : Stored → List ℕ → Buffers → ℕ → ℕ → Result Act Refusal
+action_here c s b at d = action_at s at (take c.blocks c.disk) b.resident d (leb (get_or c.slots d 0) (get_or b.held d 0))
 
 -- What follows a round.
 abbrev pub after_round : Job → ℕ → ℕ → ℕ → ℕ → List Bool → List ℕ → List ℕ → Answer Counts
@@ -190,15 +194,10 @@ module _ {c : Stored} (h : Fits c) {s : List ℕ} {rounds : ℕ} where
         omega (arith, loads, most, few_blocks)
 
     -- the reader of the model reads the same action
-    reads : (a : Act) → a ≡ action_here c s b at d → action_reader (job_of c) b.resident d (drop at (bits s)) ≡ act_read s at a
+    reads : (a : Result Act Refusal) → a ≡ action_here c s b at d → action_reader (job_of c) b.resident d (drop at (bits s)) ≡ act_read s at a
+    unfolding job_of
     reads a e =
-        action_reads (job_of c) b.resident d c.blocks c.disk (leb (get_or c.slots d 0) (get_or b.held d 0))
-        (record {
-          all_blocks = blocks_are c h;
-          disk_at = disk-at c h;
-          taken = rw (slots_at c h d l, held.loads d here);
-        })
-        s at
+        action_reads (job_of c) b.resident d (leb (get_or c.slots d 0) (get_or b.held d 0)) (rw (slots_at c h d l, held.loads d here)) s at
         ∙ ap (act_read s at) (sym e)
 
     -- an action that was read is legal, and a fetch that discards nothing finds a slot empty
@@ -207,7 +206,7 @@ module _ {c : Stored} (h : Fits c) {s : List ℕ} {rounds : ℕ} where
     allowed a rest e = action-read (job_of c) b.resident d (drop at (bits s)) a rest (drop_bits at (bits s) (bits_are s)) e
 
     -- what the rest gives after it
-    goes : (a : Act) → a ≡ action_here c s b at d
+    goes : (a : Result Act Refusal) → a ≡ action_here c s b at d
         → go_on (act_read s at a) (λ x rest. disks_from (job_of c) (after_round (job_of c) (rounds - suc k) b.next (suc k) charged) (c.disks - suc d)
         (act b.resident x) (counted f d x) (suc d) rest)
         ≡ played (job_of c) rounds s
@@ -217,12 +216,12 @@ module _ {c : Stored} (h : Fits c) {s : List ℕ} {rounds : ℕ} where
         rw (← reads a e) (rw left at p.answer)
 
     -- its action is refused
-    pub disk_refused : {n : ℕ} → Refused n ≡ action_here c s b at d → refused n ≡ played (job_of c) rounds s
-    unfolding go_on act_read
-    disk_refused {n} e = goes (Refused n) e
+    pub disk_refused : {e : Refusal} → Err e ≡ action_here c s b at d → Err e ≡ checked_of (played (job_of c) rounds s)
+    unfolding go_on act_read checked_of
+    disk_refused {e} q = sym (ap Err (refusal_of-number e)) ∙ ap checked_of (goes (Err e) q)
 
     -- nothing is fetched
-    pub disk_idle : Idle ≡ action_here c s b at d → BeforeDisk c s rounds k charged b f (at + 1) (d + 1)
+    pub disk_idle : Ok Idle ≡ action_here c s b at d → BeforeDisk c s rounds k charged b f (at + 1) (d + 1)
     unfolding go_on act_read act counted
     disk_idle e =
         rw (add-one d) (record {
@@ -233,14 +232,14 @@ module _ {c : Stored} (h : Fits c) {s : List ℕ} {rounds : ℕ} where
             long = p.bounded.long;
             few = λ e. (let q = p.bounded.few e in omega (arith, q));
           };
-          answer = goes Idle e;
+          answer = goes (Ok Idle) e;
         })
 
     -- a block is fetched
-    module _ {x : ℕ} (e : Fetch x ≡ action_here c s b at d) where
+    module _ {x : ℕ} (e : Ok (Fetch x) ≡ action_here c s b at d) where
       into : Block (job_of c) b.resident d x false × (load (job_of c) b.resident d < slots_of (job_of c) d)
       unfolding act_read Legal Room
-      into = let r = allowed (fetch x) (drop (at + 11) (bits s)) (reads (Fetch x) e) in (r.legal, r.room)
+      into = let r = allowed (fetch x) (drop (at + 11) (bits s)) (reads (Ok (Fetch x)) e) in (r.legal, r.room)
 
       pub fetch_fits : (x < 512) × (d < 8) × (get_or b.held d 0 < 255)
       fetch_fits =
@@ -257,14 +256,14 @@ module _ {c : Stored} (h : Fits c) {s : List ℕ} {rounds : ℕ} where
           rw (add-one d) (record {
             within = l;
             bounded = bounded_fetch p.bounded after small (omega arith) (omega arith);
-            answer = goes (Fetch x) e;
+            answer = goes (Ok (Fetch x)) e;
           })
 
     -- a block takes the place of another
-    module _ {x z : ℕ} (e : Replace x z ≡ action_here c s b at d) where
+    module _ {x z : ℕ} (e : Ok (Replace x z) ≡ action_here c s b at d) where
       both : Block (job_of c) b.resident d x false × Block (job_of c) b.resident d z true
       unfolding act_read Legal Room
-      both = (allowed (replace x z) (drop (at + 20) (bits s)) (reads (Replace x z) e)).legal
+      both = (allowed (replace x z) (drop (at + 20) (bits s)) (reads (Ok (Replace x z)) e)).legal
 
       pub replace_fits : (z < 512) × (x < 512) × (d < 8) × (1 ≤ get_or b.held d 0)
       replace_fits =
@@ -280,7 +279,7 @@ module _ {c : Stored} (h : Fits c) {s : List ℕ} {rounds : ℕ} where
           rw (add-one d) (record {
             within = l;
             bounded = bounded_fetch p.bounded after small (omega arith) (omega arith);
-            answer = goes (Replace x z) e;
+            answer = goes (Ok (Replace x z)) e;
           })
 
   -- all disks have acted
@@ -354,10 +353,10 @@ pub round_same : {c : Stored} {s f : List ℕ} {rounds at k charged : ℕ} {b b'
     → BeforeRound c s rounds b f at k charged
 round_same {c} {s} {f} {rounds} {at} {k} {charged} p t = subst (λ (b : Buffers). BeforeRound c s rounds b f at k charged) (sym p) t
 
-pub disk_same : {c : Stored} {s : List ℕ} {rounds k charged d : ℕ} {b b' : Buffers} {f f' : List ℕ} {at at' : ℕ} → b ≡ b' → f ≡ f' → at ≡ at'
-    → BeforeDisk c s rounds k charged b' f' at' d → BeforeDisk c s rounds k charged b f at d
-disk_same {c} {s} {rounds} {k} {charged} {d} p q r t =
-    subst₃ (λ (b : Buffers) (f : List ℕ) (at : ℕ). BeforeDisk c s rounds k charged b f at d) (sym p) (sym q) (sym r) t
+pub disk_same : {c : Stored} {s : List ℕ} {rounds k d : ℕ} {b b' : Buffers} {n n' : Taken} {at at' : ℕ} → b ≡ b' → n ≡ n' → at ≡ at'
+    → BeforeDisk c s rounds k n'.rounds b' n'.fetches at' d → BeforeDisk c s rounds k n.rounds b n.fetches at d
+disk_same {c} {s} {rounds} {k} {d} p q r t =
+    subst₃ (λ (b : Buffers) (n : Taken) (at : ℕ). BeforeDisk c s rounds k n.rounds b n.fetches at d) (sym p) (sym q) (sym r) t
 
 pub reading_same : {c : Stored} {s f : List ℕ} {rounds at k charged : ℕ} {b b' : Buffers} → b ≡ b' → AtReading c s rounds f at k b' charged
     → AtReading c s rounds f at k b charged

@@ -1,17 +1,21 @@
 -- A sheet read and played action by action, as the code does it: what the rest of a round and of a sheet gives, and what the check answers. Document
 -- 01, "Playing a round", and 15 and 16 of "Numbers of a refused call"; request L7. Assumes nothing.
-use Rattle.std.specs.Prelude.{Bool, cond, List, ℕ, zero, suc, ◌+◌, ltb, get_or, set, drop, replicate}
+use Rattle.std.specs.Prelude.{Bool, cond, Result, Ok, Err, List, ℕ, zero, suc, ◌+◌, ltb, get_or, set, drop, replicate}
 use Rattle.bits.specs.Bits.{bits}
 use Rattle.bits.specs.Reading.{Answer, given, refused, Read, got, stop, is_closed}
 use Rattle.model.specs.Job.{Job, disk_count, ref_count}
 use Rattle.model.specs.Playing.{Action, idle, fetch, replace, State, start, act, consumed}
 use Rattle.model.specs.Sheet.{action_reader}
-use Rattle.model.specs.Calls.{Counts, number_of, counts_given}
-use Rattle.checking.specs.declared.Checked.{Checked}
+use Rattle.model.specs.Calls.{Counts}
+use Rattle.playing.specs.declared.Counts.{Counts as Taken}
+use Rattle.refusal.specs.declared.Refusal.{Refusal}
+use Rattle.refusal.specs.Refusals.{refusal_of}
 
 -- "A pass by the check gives the sheet's rounds and fetches per disk." "A refused call returns its number with all counts 0."
-unfoldable pub checked_of : Answer Counts → Checked
-checked_of a = record { number = number_of a; rounds = (counts_given a).rounds; fetches = (counts_given a).fetches }
+unfoldable pub checked_of : Answer Counts → Result Taken Refusal
+unfolding refusal_of
+checked_of (given c) = Ok (record { rounds = c.rounds; fetches = c.fetches })
+checked_of (refused n) = Err (refusal_of n)
 
 -- The fetches of each disk after one more action of disk d.
 unfoldable pub counted : List ℕ → ℕ → Action → List ℕ

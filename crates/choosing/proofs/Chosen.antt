@@ -18,7 +18,7 @@ use Rattle.model.specs.Rules.{Choice as RuleChoice}
 use Rattle.model.specs.Valid.{Block}
 use Rattle.model.proofs.Distances.{distance_before, distance_same, distance_one}
 use Rattle.model.proofs.Choosing.{NearestView, none_due, nearest, nearest_view, LastView, empty, last, last_view, no_later, one_later}
-use Rattle.lookup.specs.Desk.{nexts, laters, helds, looks}
+use Rattle.lookup.specs.declared.Desk.{Desk}
 use Rattle.choosing.specs.Choosing.{last_place, some_beyond, also_idle, choice_from, rule_of, meaning}
 use Rattle.choosing.specs.declared.Rule.{Rule}
 use Rattle.choosing.specs.declared.Rule.TheVariants.{Short, Sparing}
@@ -28,18 +28,18 @@ use Rattle.lookup.proofs.Right.{DiskRight}
 use Rattle.choosing.proofs.Scanning.{last_within, last_most, beyond_none, beyond_some}
 
 -- What is chosen, and the tests that led to it. The last of the residents is referenced at `far`.
-module _ (refs : List ℕ) (rule : Rule) (d count slots : ℕ) (desk : List (List ℕ)) where
+module _ (refs : List ℕ) (rule : Rule) (d count slots : ℕ) (desk : Desk) where
   abbrev look_of : ℕ
-  look_of = get_or (looks desk) d 0
+  look_of = get_or desk.look d 0
 
   abbrev last_of : ℕ
-  last_of = last_place (helds desk) (nexts desk) (d * 64) (count - 1)
+  last_of = last_place desk.held desk.next (d * 64) (count - 1)
 
   abbrev far : ℕ
-  far = get_or (nexts desk) (get_or (helds desk) last_of 0) 0
+  far = get_or desk.next (get_or desk.held last_of 0) 0
 
   abbrev idles : Bool
-  idles = also_idle rule (some_beyond (helds desk) (laters desk) far (d * 64) count)
+  idles = also_idle rule (some_beyond desk.held desk.later far (d * 64) count)
 
   data Tested : Choice → Type 0 where
     at_end : length refs ≤ look_of → Tested NoneMissing
@@ -65,26 +65,26 @@ module _ (refs : List ℕ) (rule : Rule) (d count slots : ℕ) (desk : List (Lis
       (λ y. rw (e, f, g, y) (after l full k y)))))
 
 -- A disk of a job for which a rule chooses: its tables are right in the state, and so are the numbers of its residents and its slots.
-pub record Chooses (j : Job) (s : State) (d : ℕ) (desk : List (List ℕ)) (count slots : ℕ) : Type 0 where
+pub record Chooses (j : Job) (s : State) (d : ℕ) (desk : Desk) (count slots : ℕ) : Type 0 where
   pub sound : Sound j
   pub known : d < disk_count j
-  pub right : DiskRight j s.resident s.next d (helds desk) (get_or (looks desk) d 0) (laters desk)
-  pub distances : (b : ℕ) → b < 512 → get_or (nexts desk) b 0 ≡ distance j.refs s.next b
+  pub right : DiskRight j s.resident s.next d desk.held (get_or desk.look d 0) desk.later
+  pub distances : (b : ℕ) → b < 512 → get_or desk.next b 0 ≡ distance j.refs s.next b
   pub counted : count ≡ load j s.resident d
   pub slotted : slots ≡ slots_of j d
 
-module _ {j : Job} {s : State} {d : ℕ} {desk : List (List ℕ)} {count slots : ℕ} (h : Chooses j s d desk count slots) where
+module _ {j : Job} {s : State} {d : ℕ} {desk : Desk} {count slots : ℕ} (h : Chooses j s d desk count slots) where
   abbrev look : ℕ
-  look = get_or (looks desk) d 0
+  look = get_or desk.look d 0
 
   abbrev residents : List ℕ
-  residents = helds desk
+  residents = desk.held
 
   abbrev next : List ℕ
-  next = nexts desk
+  next = desk.next
 
   abbrev later : List ℕ
-  later = laters desk
+  later = desk.later
 
   -- U is the block of the first missing reference, if there is one.
   none-due : ref_count j ≤ look → nearest_missing j s d ≡ none
@@ -281,22 +281,22 @@ module _ {j : Job} {s : State} {d : ℕ} {desk : List (List ℕ)} {count slots :
 
 -- and stands where the tables say: at a slot, or at a place among the residents.
 abbrev pub Placed : List ℕ → ℕ → ℕ → ℕ → ℕ → Choice → Type 0
-Placed refs look base count slots (IntoEmpty u p) = (look < length refs) × (u ≡ get_or refs look 0) × (count < slots) × (p ≡ base + count)
-Placed refs look base count slots (OverMinBlock u p) =
-    (look < length refs) × (u ≡ get_or refs look 0) × (slots ≤ count) × (base ≤ p) × (p < base + count)
-Placed refs look base count slots MinBlockSooner = Unit {0}
-Placed refs look base count slots Waits = Unit {0}
-Placed refs look base count slots NoneMissing = Unit {0}
+Placed refs at base count slots (IntoEmpty u p) = (at < length refs) × (u ≡ get_or refs at 0) × (count < slots) × (p ≡ base + count)
+Placed refs at base count slots (OverMinBlock u p) =
+    (at < length refs) × (u ≡ get_or refs at 0) × (slots ≤ count) × (base ≤ p) × (p < base + count)
+Placed refs at base count slots MinBlockSooner = Unit {0}
+Placed refs at base count slots Waits = Unit {0}
+Placed refs at base count slots NoneMissing = Unit {0}
 
-pub choice_placed : (refs : List ℕ) (rule : Rule) (d count slots : ℕ) (desk : List (List ℕ)) → 1 ≤ slots
-    → Placed refs (get_or (looks desk) d 0) (d * 64) count slots (choice_from refs rule d count slots desk)
+pub choice_placed : (refs : List ℕ) (rule : Rule) (d count slots : ℕ) (desk : Desk) → 1 ≤ slots
+    → Placed refs (get_or desk.look d 0) (d * 64) count slots (choice_from refs rule d count slots desk)
 choice_placed refs rule d count slots desk one = step _ (tested refs rule d count slots desk)
   where
-    step : (c : Choice) → Tested refs rule d count slots desk c → Placed refs (get_or (looks desk) d 0) (d * 64) count slots c
+    step : (c : Choice) → Tested refs rule d count slots desk c → Placed refs (get_or desk.look d 0) (d * 64) count slots c
     step c (at_end l) = tt
     step c (room l f) = (l, refl, f, refl)
     step c (before l f k) = tt
     step c (beyond l f k y) = tt
     step c (after l f k y) =
-        let w = last_within (helds desk) (nexts desk) (d * 64) (count - 1) in
+        let w = last_within desk.held desk.next (d * 64) (count - 1) in
         (l, refl, f, omega (arith, w), omega (arith, w, f, one))

@@ -1,12 +1,18 @@
 -- The loops over a disk's residents: one more resident, the greatest of all, and one beyond a bound. Assumes nothing.
-use mathlib.Core.Path.{◌≡◌, refl, sym, ap, ◌∙◌}
+use mathlib.Core.Path.{◌≡◌, refl, sym, ap, ap₂, ◌∙◌}
 use mathlib.Core.Bool.{Bool, true, false, cond, ◌||◌}
 use mathlib.Core.List.{List}
 use Prim.Native.Nat.{ℕ, zero, suc, ◌+◌, ◌-◌, ◌≤◌, ◌<◌}
 use native.Mathlib.Omega.{arith}
 use lib.Dec.{leb, ltb}
-use lib.ListN.{get_or}
+use lib.ListN.{length, get_or, take, drop, length-take, length-drop}
+use lib.Seq.{get_or-take, get_or-drop}
 use borrow.Author.Tests.{le-leb, lt-leb, leb-true, leb-false, lt-ltb}
+use Rattle.std.specs.List.{list_any}
+use Rattle.std.proofs.lemmas.Bool.Decides.{nat_tests}
+use Rattle.std.proofs.lemmas.List.{get_or_default}
+use Rattle.std.proofs.lemmas.List.Folds.{list_any_more}
+use Rattle.bits.specs.Bits.{Below}
 use Rattle.bits.proofs.Logic.{by_test, clash, or_false_left, or_false_right}
 use Rattle.choosing.specs.Choosing.{key_at, last_place, some_beyond}
 
@@ -73,37 +79,35 @@ module _ (residents next : List ℕ) (base : ℕ) where
       (λ f. let same : base + m ≡ base + suc k = (let g = leb-false m k f in omega (arith, g)) in let q = ap (key_at residents next) same in
       omega (arith, p, q))))
 
+-- what `last` and `rule_choice` use
+pub ruleset turns = (last_start, last_here, last_kept)
+
+pub ruleset cases = (nat_tests, last_within)
+
+-- a place of the part of a list from `base` on is below what the list is below
+pub part_below : (n : ℕ) (l : List ℕ) (base k i v : ℕ) → Below n l → base + k ≤ length l → i < length (take k (drop base l))
+    → v ≡ get_or (take k (drop base l)) i v → v < n
+part_below n l base k i v below within inside e =
+    let long = length-take k (drop base l) in
+    let rest = length-drop base l in
+    let same = e ∙ get_or-take k (drop base l) i v (omega (arith, long, inside)) ∙ get_or-drop base l i v
+    ∙ get_or_default l (base + i) v 0 (omega (arith, long, rest, inside)) in
+    let small = below (base + i) (omega (arith, long, rest, inside)) in
+    omega (arith, same, small)
+
 module _ (residents later : List ℕ) (bound base : ℕ) where
-  abbrev pub beyond_before : ℕ → Bool
-  beyond_before i = some_beyond residents later bound base (i - base)
-
-  pub beyond_start : false ≡ beyond_before base
+  -- the residents from `base` on, as a list
+  pub beyond_list : (k : ℕ) → base + k ≤ length residents
+      → list_any (λ b. ltb bound (get_or later b 0)) (take k (drop base residents)) ≡ some_beyond residents later bound base k
   unfolding some_beyond
-  beyond_start = let e : base - base ≡ 0 = omega arith in sym (ap (some_beyond residents later bound base) e)
-
-  next_beyond : (i : ℕ) → base ≤ i → beyond_before (i + 1) ≡ beyond_before i || ltb bound (get_or later (get_or residents i 0) 0)
-  unfolding some_beyond
-  next_beyond i l =
-      let e : i + 1 - base ≡ suc (i - base) = omega arith in
-      let f : base + (i - base) ≡ i = omega arith in
-      ap (some_beyond residents later bound base) e
-      ∙ ap (λ (x : ℕ). beyond_before i || ltb bound (get_or later (get_or residents x 0) 0)) f
-
-  pub beyond_here : (i : ℕ) → base ≤ i → bound < get_or later (get_or residents i 0) 0 → true ≡ beyond_before (i + 1)
-  beyond_here i l h = sym (next_beyond i l ∙ ap (λ (x : Bool). beyond_before i || x) (lt-ltb _ _ h) ∙ any (beyond_before i))
-    where
-      any : (x : Bool) → x || true ≡ true
-      any true = refl
-      any false = refl
-
-  pub beyond_kept : (i : ℕ) (found : Bool) → base ≤ i → found ≡ beyond_before i → get_or later (get_or residents i 0) 0 ≤ bound
-      → found ≡ beyond_before (i + 1)
-  beyond_kept i found l p h = p ∙ sym (next_beyond i l ∙ ap (λ (x : Bool). beyond_before i || x) (borrow.Author.Tests.le-ltb _ _ h)
-      ∙ same (beyond_before i))
-    where
-      same : (x : Bool) → x || false ≡ x
-      same true = refl
-      same false = refl
+  beyond_list zero l = refl
+  beyond_list (suc k) l =
+      let far : ℕ → Bool = λ b. ltb bound (get_or later b 0) in
+      let from = drop base residents in
+      let long = length-drop base residents in
+      ap (λ (n : ℕ). list_any far (take n from)) (let e : suc k ≡ k + 1 = omega arith in e)
+      ∙ list_any_more far from k 0 (omega (arith, long))
+      ∙ ap₂ (λ (x : Bool) (b : ℕ). x || far b) (beyond_list k (omega arith)) (get_or-drop base residents k 0)
 
   -- one of k stands beyond the bound exactly if the test says so
   pub beyond_none : (k : ℕ) → some_beyond residents later bound base k ≡ false → (m : ℕ) → m < k → get_or later (get_or residents (base + m) 0) 0 ≤ bound

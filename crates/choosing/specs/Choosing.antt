@@ -2,7 +2,7 @@
 use Rattle.std.specs.Prelude.{Bool, false, cond, ◌||◌, List, ℕ, zero, suc, ◌+◌, ◌-◌, ◌*◌, ltb, leb, length, get_or}
 use Rattle.model.specs.Rules.{short, sparing, into_empty, over_min_block, min_block_sooner, waits, none_missing}
 use Rattle.model.specs.Rules.{Choice as RuleChoice, Rule as JobRule}
-use Rattle.lookup.specs.Desk.{nexts, laters, helds, looks}
+use Rattle.lookup.specs.declared.Desk.{Desk}
 use Rattle.choosing.specs.declared.Choice.{Choice}
 use Rattle.choosing.specs.declared.Choice.TheVariants.{IntoEmpty, OverMinBlock, MinBlockSooner, Waits, NoneMissing}
 use Rattle.choosing.specs.declared.Rule.{Rule}
@@ -30,22 +30,22 @@ also_idle Short later = false
 also_idle Sparing later = later
 
 -- With full slots: the min-block stands at `place`.
-unfoldable pub choice_full : Rule → List (List ℕ) → ℕ → ℕ → ℕ → ℕ → ℕ → Choice
+unfoldable pub choice_full : Rule → Desk → ℕ → ℕ → ℕ → ℕ → ℕ → Choice
 unfolding some_beyond
 choice_full rule desk look u base count place =
-    let far = get_or (nexts desk) (get_or (helds desk) place 0) 0 in
+    let far = get_or desk.next (get_or desk.held place 0) 0 in
     cond (ltb far look) MinBlockSooner
-    (cond (also_idle rule (some_beyond (helds desk) (laters desk) far base count)) Waits (OverMinBlock u place))
+    (cond (also_idle rule (some_beyond desk.held desk.later far base count)) Waits (OverMinBlock u place))
 
 -- What a rule chooses for disk d, which holds `count` blocks in its slots.
-unfoldable pub choice_from : List ℕ → Rule → ℕ → ℕ → ℕ → List (List ℕ) → Choice
+unfoldable pub choice_from : List ℕ → Rule → ℕ → ℕ → ℕ → Desk → Choice
 unfolding choice_full last_place
 choice_from refs rule d count slots desk =
-    let look = get_or (looks desk) d 0 in
+    let look = get_or desk.look d 0 in
     let u = get_or refs look 0 in
     cond (leb (length refs) look) NoneMissing
     (cond (ltb count slots) (IntoEmpty u (d * 64 + count))
-    (choice_full rule desk look u (d * 64) count (last_place (helds desk) (nexts desk) (d * 64) (count - 1))))
+    (choice_full rule desk look u (d * 64) count (last_place desk.held desk.next (d * 64) (count - 1))))
 
 -- Which of the model's rules it is, and which of its choices.
 abbrev pub rule_of : Rule → JobRule

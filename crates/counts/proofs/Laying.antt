@@ -3,15 +3,15 @@ use mathlib.Core.Path.{◌≡◌, refl, sym, ap, ◌∙◌}
 use mathlib.Core.List.{List, [], ◌∷◌, ◌++◌}
 use Prim.Native.Nat.{ℕ, suc, ◌+◌, ◌*◌}
 use native.Mathlib.Omega.{arith}
-use borrow.Author.Tests.{eq-eqb, ne_eqb}
 use lib.ListN.{length}
-use Rattle.bits.specs.Bits.{be16}
+use Rattle.bits.specs.Bits.{be16, laid}
 use Rattle.bits.specs.Fields.{laid_at}
 use Rattle.bits.proofs.Fields.{laid_then}
+use Rattle.playing.specs.declared.Counts.{Counts}
 use Rattle.model.specs.Plans.{each}
 use Rattle.model.specs.Calls.{halves}
 use Rattle.model.proofs.Plans.{length-each, each_more}
-use Rattle.counts.specs.Counts.{counts_laid}
+use Rattle.counts.specs.Counts.{checked_numbers}
 
 length-halves : (l : List ℕ) → length (halves l) ≡ length l * 2
 unfolding halves
@@ -41,27 +41,26 @@ pub laid-counts : (rounds : ℕ) (fetches : List ℕ) (k n : ℕ) (lent : List �
 unfolding halves
 laid-counts rounds fetches k n lent e = laid_then (k * 2) (n * 2) (be16 rounds) (halves fetches) lent (omega (arith, e))
 
+-- what is laid from the first byte on: rounds and fetches,
+pub laid_first : (l lent : List ℕ) → laid_at 0 l lent ≡ laid l lent
+unfolding laid_at
+laid_first l lent = refl
+
 -- two numbers,
-pub laid_two : (m n : ℕ) (lent : List ℕ) → laid_at 2 (be16 n) (laid_at 0 (be16 m) lent) ≡ laid_at 0 (halves (m ∷ n ∷ [])) lent
+pub laid_two : (m n : ℕ) (lent : List ℕ) → laid_at 2 (be16 n) (laid_at 0 (be16 m) lent) ≡ laid (halves (m ∷ n ∷ [])) lent
 unfolding halves
-laid_two m n lent = laid_then 0 2 (be16 m) (be16 n) lent refl
+laid_two m n lent = laid_then 0 2 (be16 m) (be16 n) lent refl ∙ laid_first _ lent
 
--- and then nine and nine
-pub laid_twenty : (m n : ℕ) (x y lent : List ℕ) → length x ≡ 9
-    → laid_at 22 (halves y) (laid_at 4 (halves x) (laid_at 2 (be16 n) (laid_at 0 (be16 m) lent))) ≡ laid_at 0 (halves (m ∷ n ∷ (x ++ y))) lent
-unfolding halves
-laid_twenty m n x y lent e =
+-- and two, and the rounds and fetches of two plans
+pub laid_twenty : (m n : ℕ) (a b : Counts) (lent : List ℕ)
+    → laid_at 22 (halves (checked_numbers b)) (laid_at 4 (halves (checked_numbers a)) (laid_at 2 (be16 n) (laid_at 0 (be16 m) lent)))
+    ≡ laid (halves (m ∷ n ∷ (checked_numbers a ++ checked_numbers b))) lent
+unfolding halves each
+laid_twenty m n a b lent =
+    let x = checked_numbers a in
+    let y = checked_numbers b in
     let l = length-halves x in
-    ap (λ (s : List ℕ). laid_at 22 (halves y) (laid_at 4 (halves x) s)) (laid_two m n lent)
+    ap (λ (s : List ℕ). laid_at 22 (halves y) (laid_at 4 (halves x) s)) (laid_then 0 2 (be16 m) (be16 n) lent refl)
     ∙ ap (laid_at 22 (halves y)) (laid_then 0 4 (be16 m ++ be16 n) (halves x) lent refl)
-    ∙ laid_then 0 22 (be16 m ++ be16 n ++ halves x) (halves y) lent (omega (arith, l, e))
-    ∙ ap (λ (s : List ℕ). laid_at 0 (be16 m ++ (be16 n ++ s)) lent) (sym (halves_append x y))
-
--- the slice of a call that is refused, and of one that is not
-pub laid-refused : (number : ℕ) (numbers lent : List ℕ) → (number ≡ 0 → ⊥) → lent ≡ counts_laid number numbers lent
-unfolding counts_laid
-laid-refused number numbers lent f = rw (ne_eqb number 0 f) refl
-
-pub laid-given : (number : ℕ) (numbers lent : List ℕ) → number ≡ 0 → laid_at 0 (halves numbers) lent ≡ counts_laid number numbers lent
-unfolding counts_laid laid_at
-laid-given number numbers lent z = rw (eq-eqb number 0 z) refl
+    ∙ laid_then 0 22 (be16 m ++ be16 n ++ halves x) (halves y) lent (omega (arith, l))
+    ∙ ap (λ (s : List ℕ). laid_at 0 (be16 m ++ (be16 n ++ s)) lent) (sym (halves_append x y)) ∙ laid_first _ lent

@@ -1,34 +1,40 @@
 -- The numbers that the calls write for C, from the values that they return. Assumes nothing.
-use Rattle.std.specs.Prelude.{cond, List, [], ◌∷◌, ◌++◌, ℕ, eqb, get_or}
+use Rattle.std.specs.Prelude.{List, [], ◌∷◌, ◌++◌, ℕ, get_or, Result, Ok, Err}
 use Rattle.bits.specs.Bits.{laid}
 use Rattle.model.specs.Plans.{each}
 use Rattle.model.specs.Calls.{halves}
+use Rattle.playing.specs.declared.Counts.{Counts}
+use Rattle.refusal.specs.Refusals.{number}
+use Rattle.refusal.specs.declared.Refusal.{Refusal}
 use Rattle.returning.specs.Returning.{of_which}
 use Rattle.returning.specs.declared.Mark.{Mark}
-use Rattle.returning.specs.declared.Mark.TheVariants.{Unmarked, Short, Sparing}
+use Rattle.returning.specs.declared.Mark.TheVariants.{Short, Sparing}
 use Rattle.returning.specs.declared.Planned.{Planned}
 use Rattle.returning.specs.declared.Chosen.{Chosen}
 
--- "the mark (0 short, 1 sparing)"; a call without a mark writes none
+-- "its number, or 0 if it is not refused"
+abbrev pub number_in : {A : Type 0} → Result A Refusal → ℕ
+number_in (Ok x) = 0
+number_in (Err refusal) = number refusal
+
+-- "the mark (0 short, 1 sparing)"
 abbrev pub mark_number : Mark → ℕ
-mark_number Unmarked = 0
 mark_number Short = 0
 mark_number Sparing = 1
 
 -- "the rounds and eight fetch counts", of a check that passes and of each plan
-abbrev pub checked_numbers : ℕ → List ℕ → List ℕ
-checked_numbers rounds fetches = rounds ∷ each (λ d. get_or fetches d 0) 0 8
+abbrev pub checked_numbers : Counts → List ℕ
+checked_numbers c = c.rounds ∷ each (λ d. get_or c.fetches d 0) 0 8
 
 -- "the mark (0 short, 1 sparing), the length of the part, then for the short and for the sparing plan the rounds and eight fetch counts"
-unfoldable pub planned_numbers : Planned → List ℕ
-unfolding each
-planned_numbers p = mark_number p.mark ∷ p.length ∷ (checked_numbers p.short.rounds p.short.fetches ++ checked_numbers p.sparing.rounds p.sparing.fetches)
+abbrev pub planned_numbers : Planned → List ℕ
+planned_numbers p = mark_number p.mark ∷ p.length ∷ (checked_numbers p.short ++ checked_numbers p.sparing)
 
 -- L1: "0 (first) or 1 (second) and that sheet's length"
-unfoldable pub chosen_numbers : Chosen → List ℕ
+abbrev pub chosen_numbers : Chosen → List ℕ
 chosen_numbers c = of_which c.which 0 1 ∷ c.length ∷ []
 
--- The lent slice after a call with that number, and these numbers to write: "a refusal writes nothing there".
-unfoldable pub counts_laid : ℕ → List ℕ → List ℕ → List ℕ
-unfolding laid halves
-counts_laid number numbers lent = cond (eqb number 0) (laid (halves numbers) lent) lent
+-- The lent slice after a call, of which these numbers are written where it is not refused: "a refusal writes nothing there".
+abbrev pub counts_laid : {A : Type 0} → (A → List ℕ) → Result A Refusal → List ℕ → List ℕ
+counts_laid numbers (Ok x) lent = laid (halves (numbers x)) lent
+counts_laid numbers (Err refusal) lent = lent

@@ -2,39 +2,37 @@
 use mathlib.Core.Path.{◌≡◌, refl, sym, ap, ap₂, ◌∙◌, subst}
 use mathlib.Core.Bool.{Bool, true, false, ◌&&◌}
 use mathlib.Core.List.{List, ◌∷◌, ◌++◌, map}
-use Prim.Native.Nat.{ℕ, zero, suc, ◌+◌, ◌%◌, ◌≤◌, ◌<◌}
+use Prim.Native.Nat.{ℕ, zero, suc, ◌+◌, ◌≤◌, ◌<◌}
 use native.Mathlib.Omega.{arith}
 use lib.Dec.{ltb}
-use lib.ListN.{length, get_or, drop, drop_of_length-le}
-use lib.Seq.{drop-cons, take_all}
+use lib.ListN.{take, drop, get_or-map, drop_of_length-le}
+use lib.Seq.{drop-cons, take_all, ext_get_or}
+use Rattle.std.proofs.lemmas.List.{length-map, length-take-le, get_or-take}
 use borrow.Author.Tests.{ltb-true, ltb-false}
 use Rattle.bits.proofs.Logic.{by_test, and_true, and_false_left, and_false_right}
 use Rattle.model.specs.Job.{Job, Sound, disk_count, ref_count, ref_at}
-use Rattle.model.specs.Playing.{Action, Schedule, State, is_resident, act_all, consumed, play_round}
-use Rattle.model.specs.Rules.{Choice, into_empty, over_min_block, min_block_sooner, waits, none_missing, action}
+use Rattle.model.specs.Playing.{Action as JobAction}
+use Rattle.model.specs.Playing.{Schedule, State, is_resident, act_all, consumed, play_round}
+use Rattle.model.specs.Rules.{none_missing, action}
 use Rattle.model.specs.Rules.{Rule as JobRule}
 use Rattle.model.specs.Plans.{each, choices, plan_from}
 use Rattle.model.specs.Page.{reason, reasons_of}
 use Rattle.model.specs.Valid.{Ready}
-use Rattle.model.proofs.Plans.{each_cong, actions_of, plan_round}
+use Rattle.model.proofs.Plans.{length-each, get_d_each, actions_of, plan_round}
 use Rattle.model.proofs.Rounds.{ready_after}
-use Rattle.lookup.specs.Desk.{cell, with_cell, of_block}
+use Rattle.lookup.specs.Desk.{passed}
+use Rattle.lookup.specs.declared.Steps.{Steps}
 use Rattle.playing.specs.Playing.{consume_one}
 use Rattle.playing.proofs.Laws.{holds_same, holds_consume}
 use Rattle.choosing.specs.Choosing.{rule_of}
 use Rattle.choosing.specs.declared.Rule.{Rule}
 use Rattle.lookup.proofs.Right.{Forward}
 use Rattle.lookup.proofs.StaysRight.{reading, right_read}
-use Rattle.writing.specs.Writing.{action_in, actions_in, reasons_in}
-use Rattle.driving.specs.Driving.{PlanInput, PlanState, read_next, can_read, read_from, all_acted, round_from, driven_from, reasons_from}
+use Rattle.writing.specs.Writing.{choice_of, choices_in, actions_in, reasons_in}
+use Rattle.writing.specs.declared.Action.{Action}
+use Rattle.driving.specs.Driving.{PlanInput, PlanState, read_next, can_read, read_from, all_acted, round_acts, round_from, driven_from, reasons_from}
 use Rattle.driving.proofs.Input.{input_of}
 use Rattle.driving.proofs.TurnsRight.{lawful_of, mid_state, many, StandsFor, AfterTurns, at_disk}
-
--- lists made number by number
-map_each : {A B : Type 0} (h : A → B) (f : ℕ → A) (i n : ℕ) → map h (each f i n) ≡ each (λ e. h (f e)) i n
-unfolding each
-map_each h f i zero = refl
-map_each h f i (suc n) = ap (λ (l : List _). h (f i) ∷ l) (map_each h f (suc i) n)
 
 -- only marks and next read count
 stands_same : {j : Job} {s t : State} {p : PlanState} → s.resident ≡ t.resident → s.next ≡ t.next → StandsFor j s p → StandsFor j t p
@@ -45,26 +43,15 @@ stands_same {j} {s} {t} {p} m n h =
       right = record {
         disks = rw (← m, ← n) right.disks;
         distances = rw (← n) right.distances;
-        rows = right.rows;
         long_nexts = right.long_nexts;
         long_laters = right.long_laters;
         long_helds = right.long_helds;
         long_looks = right.long_looks;
       };
-      rows = h.rows;
-      long_fetched = h.long_fetched;
-      long_discarded = h.long_discarded;
-      long_reasons = h.long_reasons;
+      long_acts = h.long_acts;
     }
 
-reason-few : (c : Choice) → reason c < 5
-reason-few (into_empty u) = omega arith
-reason-few (over_min_block u v) = omega arith
-reason-few min_block_sooner = omega arith
-reason-few waits = omega arith
-reason-few none_missing = omega arith
-
-module _ (rule : Rule) (j : Job) (sound : Sound j) {steps : List (List ℕ)} (forward : Forward j steps) where
+module _ (rule : Rule) (j : Job) (sound : Sound j) {steps : Steps} (forward : Forward j steps) where
   abbrev k : PlanInput
   k = input_of j steps rule
 
@@ -76,16 +63,13 @@ module _ (rule : Rule) (j : Job) (sound : Sound j) {steps : List (List ℕ)} (fo
       let at : p.buffers.next ≡ i = h.holds.read in
       subst (λ (x : ℕ). StandsFor j (reading marks (suc i)) (record {
         buffers = consume_one p.buffers;
-        desk = with_cell p.desk 0 (ref_at j x) (get_or (of_block steps) x 0);
+        desk = record p.desk { next = passed j.refs steps x p.desk.next };
         acts = p.acts;
       })) (sym at)
       (record {
         holds = holds_consume j p.buffers (reading marks i) h.holds;
         right = right_read marks i sound forward h.right due here;
-        rows = h.rows;
-        long_fetched = h.long_fetched;
-        long_discarded = h.long_discarded;
-        long_reasons = h.long_reasons;
+        long_acts = h.long_acts;
       })
 
   -- what is consumed of the references from i on
@@ -129,7 +113,7 @@ module _ (rule : Rule) (j : Job) (sound : Sound j) {steps : List (List ℕ)} (fo
 
     turn_none : AfterTurns r j s 0 p
     unfolding mid_state act_all
-    turn_none = record { stands = stands_same refl refl h; chosen = λ e l. absurd (omega arith); why = λ e l. absurd (omega arith) }
+    turn_none = record { stands = stands_same refl refl h; chosen = λ e l. absurd (omega arith) }
 
     turn_all : AfterTurns r j s (disk_count j) (all_acted k p)
     turn_all = at_disk rule j sound forward s ready p turn_none (disk_count j) (omega arith)
@@ -140,20 +124,26 @@ module _ (rule : Rule) (j : Job) (sound : Sound j) {steps : List (List ℕ)} (fo
         let l = many r (lawful_of rule) j sound s ready in
         ap (act_all s.resident) (take_all (disk_count j) (actions_of r j s) (omega (arith, l)))
 
-    -- their actions are the rule's,
-    acts_are : actions_in (all_acted k p).acts (disk_count j) ≡ actions_of r j s
-    unfolding actions_in actions_of choices
-    acts_are =
-        each_cong (action_in (all_acted k p).acts) (λ e. action (r j s e)) 0 (disk_count j) (λ e lo hi. turn_all.chosen e (omega arith))
-        ∙ sym (map_each action (r j s) 0 (disk_count j))
+    -- their actions with the reasons are the rule's choices,
+    choices_are : choices_in (round_acts k p) ≡ choices r j s
+    unfolding choices
+    choices_are =
+        let n = disk_count j in
+        let acts = (all_acted k p).acts in
+        let few = sound.few_disks in
+        let long = turn_all.stands.long_acts in
+        let many = length-map (take n acts) choice_of ∙ length-take-le n acts (omega (arith, long)) in
+        ext_get_or none_missing (choices_in (take n acts)) (each (r j s) 0 n) (many ∙ sym (length-each (r j s) 0 n)) (λ e l.
+        let inside : e < n = omega (arith, l, many) in
+        get_or-map choice_of (take n acts) e Action.NoneMissing ∙ ap choice_of (get_or-take n acts e Action.NoneMissing inside) ∙ turn_all.chosen e inside
+        ∙ sym (get_d_each (r j s) 0 n e none_missing inside ∙ ap (r j s) (let z : 0 + e ≡ e = omega arith in z)))
 
-    -- for the rule's reasons,
-    reasons_are : reasons_in (all_acted k p).acts (disk_count j) ≡ map reason (choices r j s)
-    unfolding reasons_in choices
-    reasons_are =
-        each_cong (λ (e : ℕ). cell (all_acted k p).acts 2 e % 256) (λ e. reason (r j s e)) 0 (disk_count j)
-        (λ e lo hi. let why = turn_all.why e (omega arith) in let few = reason-few (r j s e) in omega (arith, why, few))
-        ∙ sym (map_each reason (r j s) 0 (disk_count j))
+    acts_are : actions_in (round_acts k p) ≡ actions_of r j s
+    unfolding actions_of
+    acts_are = ap (map action) choices_are
+
+    reasons_are : reasons_in (round_acts k p) ≡ map reason (choices r j s)
+    reasons_are = ap (map reason) choices_are
 
     -- and what is there after the round stands for the state after it.
     stands_after : StandsFor j (play_round j s (actions_of r j s)) (round_from k p)
@@ -171,7 +161,7 @@ module _ (rule : Rule) (j : Job) (sound : Sound j) {steps : List (List ℕ)} (fo
       let actions = actions_of (rule_of rule) j s in
       let after = play_round j s actions in
       by_test (ltb s.next (ref_count j))
-      (λ y. rw (at, y, driven_from, plan_from) (ap₂ (λ (a : List Action) (l : Schedule). a ∷ l) (acts_are s ready p h)
+      (λ y. rw (at, y, driven_from, plan_from) (ap₂ (λ (a : List JobAction) (l : Schedule). a ∷ l) (acts_are s ready p h)
       (driven_is most after (ready_after j s actions after ready (plan_round (rule_of rule) (lawful_of rule) j sound s ready)) (round_from k p)
       (stands_after s ready p h))))
       (λ f. rw (at, f, driven_from, plan_from) refl)

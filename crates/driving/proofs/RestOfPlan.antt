@@ -8,7 +8,8 @@ use native.Mathlib.Nat.{suc-mul, zero-mul}
 use native.Mathlib.Numerals.{add-one}
 use native.Mathlib.Omega.{arith}
 use lib.Dec.{ltb}
-use lib.ListN.{length, get_or, replicate, length-append}
+use lib.ListN.{length, get_or, set, take, replicate, length-append}
+use Rattle.std.proofs.lemmas.List.{length-take-le}
 use borrow.Author.Tests.{lt-ltb, le-ltb}
 use Rattle.bits.proofs.Logic.{and_true, and_false_left, and_false_right}
 use Rattle.bits.specs.Bits.{bytes, laid}
@@ -16,7 +17,7 @@ use Rattle.bits.specs.Fields.{put_bits, laid_at}
 use Rattle.bits.proofs.Fields.{laid_then, length-laid}
 use Rattle.model.specs.Playing.{Schedule}
 use Rattle.model.specs.Sheet.{round_bits, sheet_bits}
-use Rattle.lookup.specs.Desk.{cell}
+use Rattle.lookup.specs.declared.Desk.{Desk}
 use Rattle.playing.specs.Playing.{fetch_into, replace_in, consume_one}
 use Rattle.playing.specs.declared.Buffers.{Buffers}
 use Rattle.choosing.specs.declared.Choice.{Choice}
@@ -25,9 +26,10 @@ use Rattle.acting.specs.Acting.{noted, taken_in}
 use Rattle.writing.specs.Heading.{headed}
 use Rattle.writing.specs.Tallying.{tallied}
 use Rattle.writing.specs.Writing.{actions_in, reasons_in}
+use Rattle.writing.specs.declared.Action.{Action}
 use Rattle.writing.proofs.Reasons.{reasons_length}
 use Rattle.driving.specs.Driving.{PlanInput, PlanState, choice_at, buffers_after, desk_after, after_turn, turns, read_next, can_read}
-use Rattle.driving.specs.Driving.{read_from, all_acted, round_from, driven_from, reasons_from, end_from, totals_of}
+use Rattle.driving.specs.Driving.{read_from, all_acted, round_acts, round_from, driven_from, reasons_from, end_from, totals_of}
 use Rattle.driving.specs.Sized.{Sized, Kept}
 use Rattle.driving.proofs.Input.{state_with}
 use Rattle.driving.proofs.Sizes.{turn_kept, read_kept}
@@ -36,12 +38,12 @@ use Rattle.driving.proofs.WrittenSoFar.{Written, written_none, written_more, she
 -- one round more, and none
 module _ (k : PlanInput) (p : PlanState) where
   driven_more : (most : ℕ) → p.buffers.next < length k.refs
-      → driven_from k (suc most) p ≡ actions_in (all_acted k p).acts (length k.slots) ∷ driven_from k most (round_from k p)
+      → driven_from k (suc most) p ≡ actions_in (round_acts k p) ∷ driven_from k most (round_from k p)
   unfolding driven_from
   driven_more most due = rw (lt-ltb p.buffers.next (length k.refs) due, driven_from)
 
   reasons_more : (most : ℕ) → p.buffers.next < length k.refs
-      → reasons_from k (suc most) p ≡ reasons_in (all_acted k p).acts (length k.slots) ++ reasons_from k most (round_from k p)
+      → reasons_from k (suc most) p ≡ reasons_in (round_acts k p) ++ reasons_from k most (round_from k p)
   unfolding reasons_from
   reasons_more most due = rw (lt-ltb p.buffers.next (length k.refs) due, reasons_from)
 
@@ -122,25 +124,25 @@ module _ {k : PlanInput} {most : ℕ} {p₀ : PlanState} {lent : List ℕ} where
   }
 
   module _ {p : PlanState} {reasons : List ℕ} {played : ℕ} (h : Laid k most p₀ p lent reasons played) where
-    laid_next : played < most → p.buffers.next < length k.refs → {q : PlanState} → q ≡ round_from k p → (acts : List (List ℕ))
-        → acts ≡ (all_acted k p).acts → {reasons' : List ℕ} → reasons' ≡ laid_at (played * length k.slots) (reasons_in acts (length k.slots)) reasons
+    laid_next : played < most → p.buffers.next < length k.refs → length (round_acts k p) ≡ length k.slots → {q : PlanState} → q ≡ round_from k p
+        → {reasons' : List ℕ} → reasons' ≡ laid_at (played * length k.slots) (reasons_in (round_acts k p)) reasons
         → Laid k most p₀ q lent reasons' (played + 1)
     unfolding laid_at
-    laid_next more due {q} eq acts ea er =
+    laid_next more due each {q} eq er =
         let disks = length k.slots in
-        let round = reasons_in acts disks in
+        let round = reasons_in (round_acts k p) in
         let left : most - played ≡ suc (most - (played + 1)) = omega arith in
-        let many = reasons_length acts disks in
+        let many = reasons_length (round_acts k p) in
         let sum = length-append h.so_far round in
         let long = h.long in
         let one = suc-mul played disks in
         let rest : reasons_from k (most - played) p ≡ round ++ reasons_from k (most - (played + 1)) q =
         ap (λ (n : ℕ). reasons_from k n p) left ∙ reasons_more k p (most - (played + 1)) due
-        ∙ ap₂ (λ (x : List (List ℕ)) (y : PlanState). reasons_in x disks ++ reasons_from k (most - (played + 1)) y) (sym ea) (sym eq) in
+        ∙ ap (λ (y : PlanState). round ++ reasons_from k (most - (played + 1)) y) (sym eq) in
         record {
           so_far = h.so_far ++ round;
           bytes = er ∙ ap (laid_at (played * disks) round) h.bytes ∙ laid_then 0 (played * disks) h.so_far round lent (omega (arith, long));
-          long = rw (add-one played, one) (omega (arith, many, sum, long));
+          long = rw (add-one played, one) (omega (arith, many, each, sum, long));
           all = append_assoc h.so_far round (reasons_from k (most - (played + 1)) q) ∙ ap (λ (l : List ℕ). h.so_far ++ l) (sym rest) ∙ h.all;
         }
 
@@ -172,32 +174,28 @@ module _ {k : PlanInput} {most : ℕ} {p₀ : PlanState} {lent : List ℕ} where
   module _ {p : PlanState} {counts sheet reasons : List ℕ} {played at : ℕ} (h : BeforeRound k most p₀ p lent counts sheet reasons played at) where
     -- the round is played, counted and written, and its reasons laid
     pub round-next : played < most → p.buffers.next < length k.refs → {q : PlanState} → Kept k q → q ≡ round_from k p
-        → (acts : List (List ℕ)) → acts ≡ (all_acted k p).acts → (disks : ℕ) → disks ≡ length k.slots
-        → {counts' sheet' reasons' : List ℕ} {at' : ℕ} → counts' ≡ tallied counts acts disks
-        → sheet' ≡ put_bits sheet at (round_bits (actions_in acts disks)) → at' ≡ at + length (round_bits (actions_in acts disks))
-        → reasons' ≡ laid_at (played * disks) (reasons_in acts disks) reasons
+        → (acts : List Action) → acts ≡ round_acts k p → length acts ≡ length k.slots
+        → {counts' sheet' reasons' : List ℕ} {at' : ℕ} → counts' ≡ tallied counts acts
+        → sheet' ≡ put_bits sheet at (round_bits (actions_in acts)) → at' ≡ at + length (round_bits (actions_in acts))
+        → reasons' ≡ laid_at (played * length k.slots) (reasons_in acts) reasons
         → BeforeRound k most p₀ q lent counts' sheet' reasons' (played + 1) at'
-    round-next more due {q} kept eq acts ea disks ed ec es et er =
+    round-next more due {q} kept eq acts ea each ec es et er =
         let few = h.few_rounds in
         let eight = h.sized.few_disks in
         let left : most - played ≡ suc (most - (played + 1)) = omega arith in
-        let round = actions_in (all_acted k p).acts (length k.slots) in
-        let same : actions_in acts disks ≡ round =
-        ap (λ (x : List (List ℕ)). actions_in x disks) ea ∙ ap (actions_in (all_acted k p).acts) ed in
-        let rest : driven_from k (most - played) p ≡ actions_in acts disks ∷ driven_from k (most - (played + 1)) q =
+        let round = actions_in acts in
+        let rest : driven_from k (most - played) p ≡ round ∷ driven_from k (most - (played + 1)) q =
         ap (λ (n : ℕ). driven_from k n p) left ∙ driven_more k p (most - (played + 1)) due
-        ∙ ap (λ (x : PlanState). round ∷ driven_from k (most - (played + 1)) x) (sym eq)
-        ∙ ap (λ (l : List _). l ∷ driven_from k (most - (played + 1)) q) (sym same) in
+        ∙ ap₂ (λ (x : List Action) (y : PlanState). actions_in x ∷ driven_from k (most - (played + 1)) y) (sym ea) (sym eq) in
         record {
           sized = h.sized;
           kept = kept;
           few_rounds = few;
           within = omega arith;
-          done = h.done ++ (actions_in acts disks ∷ []);
-          written = written_more h.written acts disks (omega (arith, eight, ed)) (omega (arith, few)) ec es et;
-          reasoned = laid_next h.reasoned more due eq acts ea
-              (er ∙ ap (λ (n : ℕ). laid_at (played * n) (reasons_in acts n) reasons) ed);
-          whole = append_assoc h.done (actions_in acts disks ∷ []) (driven_from k (most - (played + 1)) q)
+          done = h.done ++ (round ∷ []);
+          written = written_more h.written acts (omega (arith, eight, each)) (omega (arith, few)) ec es et;
+          reasoned = laid_next h.reasoned more due (ap length (sym ea) ∙ each) eq (er ∙ ap (λ (x : List Action). laid_at (played * length k.slots) (reasons_in x) reasons) ea);
+          whole = append_assoc h.done (round ∷ []) (driven_from k (most - (played + 1)) q)
               ∙ ap (λ (l : Schedule). h.done ++ l) (sym rest) ∙ h.whole;
           end = ap (end_from k (most - (played + 1))) eq ∙ sym (end_more k p (most - (played + 1)) due) ∙ ap (λ (n : ℕ). end_from k n p) (sym left)
               ∙ h.end;
@@ -237,26 +235,29 @@ module _ {k : PlanInput} {most : ℕ} {p₀ : PlanState} {lent : List ℕ} where
       last_reasons = laid_last h.reasoned none.1
 
 -- one disk's turn, by its choice
-module _ (k : PlanInput) (d : ℕ) (b : Buffers) (desk acts : List (List ℕ)) (c : Choice) where
-  by_case : {b' : Buffers} {desk' acts' : List (List ℕ)} → acts' ≡ noted d c desk acts → (x : Choice) → c ≡ x → b' ≡ buffers_after d desk b x
-      → desk' ≡ desk_after k d (buffers_after d desk b x).resident desk x → state_with b' desk' acts' ≡ after_turn k d (state_with b desk acts) c
+module _ (k : PlanInput) (d : ℕ) (b : Buffers) (desk : Desk) (acts : List Action) (c : Choice) where
+  by_case : {b' : Buffers} {desk' : Desk} {acts' : List Action} → acts' ≡ set acts d (noted desk.held c) → (x : Choice) → c ≡ x
+      → b' ≡ buffers_after d desk.held b x → desk' ≡ desk_after k d (buffers_after d desk.held b x).resident desk x
+      → state_with b' desk' acts' ≡ after_turn k d (state_with b desk acts) c
   by_case ea x e eb ed =
-      (λ i. state_with (eb i) (ed i) ((ea ∙ ap (λ (y : Choice). noted d y desk acts) e) i)) ∙ ap (after_turn k d (state_with b desk acts)) (sym e)
+      (λ i. state_with (eb i) (ed i) ((ea ∙ ap (λ (y : Choice). set acts d (noted desk.held y)) e) i))
+      ∙ ap (after_turn k d (state_with b desk acts)) (sym e)
 
-  pub turn_into : {b' : Buffers} {desk' acts' : List (List ℕ)} → acts' ≡ noted d c desk acts → (u place : ℕ) → c ≡ IntoEmpty u place
+  pub turn_into : {b' : Buffers} {desk' : Desk} {acts' : List Action} → acts' ≡ set acts d (noted desk.held c) → (u place : ℕ) → c ≡ IntoEmpty u place
       → {x : Buffers} → x ≡ fetch_into b u d → b' ≡ x → desk' ≡ taken_in k.refs x.resident k.steps d u place desk
       → state_with b' desk' acts' ≡ after_turn k d (state_with b desk acts) c
   turn_into ea u place e ex eb ed =
       by_case ea (IntoEmpty u place) e (eb ∙ ex) (ed ∙ ap (λ (y : Buffers). taken_in k.refs y.resident k.steps d u place desk) ex)
 
-  pub turn_over : {b' : Buffers} {desk' acts' : List (List ℕ)} → acts' ≡ noted d c desk acts → (u place : ℕ) → c ≡ OverMinBlock u place
-      → {v : ℕ} → v ≡ cell desk 2 place → {x : Buffers} → x ≡ replace_in b v u d → b' ≡ x
-      → desk' ≡ taken_in k.refs x.resident k.steps d u place desk → state_with b' desk' acts' ≡ after_turn k d (state_with b desk acts) c
+  pub turn_over : {b' : Buffers} {desk' : Desk} {acts' : List Action} → acts' ≡ set acts d (noted desk.held c) → (u place : ℕ)
+      → c ≡ OverMinBlock u place → {v : ℕ} → v ≡ get_or desk.held place 0 → {x : Buffers} → x ≡ replace_in b v u d → b' ≡ x
+      → desk' ≡ taken_in k.refs x.resident k.steps d u place desk
+      → state_with b' desk' acts' ≡ after_turn k d (state_with b desk acts) c
   turn_over ea u place e ev ex eb ed =
       let played = ex ∙ ap (λ (y : ℕ). replace_in b y u d) ev in
       by_case ea (OverMinBlock u place) e (eb ∙ played) (ed ∙ ap (λ (y : Buffers). taken_in k.refs y.resident k.steps d u place desk) played)
 
-  pub turn_idle : {b' : Buffers} {desk' acts' : List (List ℕ)} → acts' ≡ noted d c desk acts
+  pub turn_idle : {b' : Buffers} {desk' : Desk} {acts' : List Action} → acts' ≡ set acts d (noted desk.held c)
       → (c ≡ MinBlockSooner) ⊎ ((c ≡ Waits) ⊎ (c ≡ NoneMissing))
       → b' ≡ b → desk' ≡ desk → state_with b' desk' acts' ≡ after_turn k d (state_with b desk acts) c
   turn_idle ea e eb ed =
@@ -283,6 +284,13 @@ module _ {k : PlanInput} {p₀ : PlanState} where
         let w = h.within in
         let all : d ≡ length k.slots = omega (arith, w) in
         h.turned_so ∙ ap (λ (n : ℕ). turns k n p₀) all
+
+    -- the actions of the round, one for each disk
+    pub turn_acts : length k.slots ≤ d → take (length k.slots) p.acts ≡ round_acts k p₀
+    turn_acts over = ap (λ (x : PlanState). take (length k.slots) x.acts) (turn_last over)
+
+    pub turn_each : length (take (length k.slots) p.acts) ≡ length k.slots
+    turn_each = length-take-le (length k.slots) p.acts (omega (arith, h.sized.few_disks, h.kept.long_acts))
 
 -- the reading
 module _ (k : PlanInput) (p : PlanState) where

@@ -7,18 +7,20 @@ use lib.Dec.{eqb, ltb, lit<}
 use lib.ListN.{length, get_or, set, length-set, get_or-eq_default}
 use lib.Seq.{get_or-set_same, get_or-set_other}
 use borrow.Author.Tests.{eqb-true, eqb-false, ltb-true, ltb-false}
+use Rattle.std.specs.List.{All}
 use Rattle.bits.specs.Bits.{Below}
 use Rattle.bits.proofs.Logic.{by_test}
 use Rattle.bits.proofs.Fields.{below_any}
-use Rattle.lookup.specs.Desk.{row, cell, nexts, helds, looks, of_block}
-use Rattle.lookup.proofs.Rows.{row_other, below_set, below_cell}
+use Rattle.std.proofs.lemmas.List.Elements.{All-set}
+use Rattle.lookup.proofs.Rows.{below_set}
 use Rattle.playing.specs.Playing.{fetch_into, replace_in, discard_from, consume_one}
 use Rattle.playing.specs.declared.Buffers.{Buffers}
 use Rattle.choosing.specs.declared.Choice.{Choice}
 use Rattle.choosing.specs.declared.Choice.TheVariants.{IntoEmpty, OverMinBlock, MinBlockSooner, Waits, NoneMissing}
 use Rattle.choosing.proofs.Chosen.{Placed, choice_placed}
-use Rattle.acting.specs.Acting.{Small, column, noted, taken_in}
-use Rattle.acting.proofs.AfterChoice.{rows_after, column-fetched, column-discarded, column_rows}
+use Rattle.acting.specs.Acting.{Small, noted, taken_in}
+use Rattle.acting.proofs.AfterChoice.{rows_after, noted_small}
+use Rattle.writing.specs.Writing.{Small as SmallAction}
 use Rattle.driving.specs.Driving.{PlanInput, PlanState, choice_at, after_turn, read_next}
 use Rattle.driving.specs.Sized.{Sized, Kept}
 
@@ -60,10 +62,10 @@ module _ (k : PlanInput) (sized : Sized k) where
     count = get_or p.buffers.held d 0
 
     abbrev look : ℕ
-    look = get_or (looks p.desk) d 0
+    look = get_or p.desk.look d 0
 
     pub look_within : look ≤ length k.refs
-    look_within = let w = below_any (suc (length k.refs)) (looks p.desk) (omega arith) kept.small_looks d in omega (arith, w)
+    look_within = let w = below_any (suc (length k.refs)) p.desk.look (omega arith) kept.small_looks d in omega (arith, w)
 
     -- what is chosen stands among the residents of the disk, or at its first empty slot
     pub chosen_placed : (c : Choice) → c ≡ choice_at k d p → Placed k.refs look (d * 64) count (get_or k.slots d 0) c
@@ -90,78 +92,95 @@ module _ (k : PlanInput) (sized : Sized k) where
     chosen-small Waits e = tt
     chosen-small NoneMissing e = tt
 
-    -- a block is taken in
-    taken_kept : (b : Buffers) (u place f z r : ℕ) → u < 512 → f < 513 → z < 513
-        → ((e : ℕ) → e < length k.slots → get_or b.held e 0 ≤ get_or k.slots e 0)
-        → Kept k (record { buffers = b; desk = taken_in k.refs b.resident k.steps d u place p.desk; acts = column p.acts d f z r })
-    taken_kept b u place f z r small ff zz held =
-        let t = rows_after k.refs b.resident k.steps d u place p.desk kept.desk_rows sized.few_refs sized.disk_steps in
-        let end = t.moved.within look_within in
-        record {
-          held = held;
-          desk_rows = t.rows;
-          small_nexts = subst (Below 4096) (sym t.same_nexts) kept.small_nexts;
-          small_helds = subst (Below 512) (sym t.new_helds) (below_set 512 (helds p.desk) place u kept.small_helds small);
-          small_looks = subst (Below (suc (length k.refs))) (sym t.new_looks)
-              (below_set (suc (length k.refs)) (looks p.desk) d t.end kept.small_looks (omega (arith, end)));
-          act_rows = column_rows p.acts d f z r kept.act_rows;
-          small_fetched = subst (Below 513) (sym (column-fetched p.acts d f z r kept.act_rows))
-              (below_set 513 (row p.acts 0) d f kept.small_fetched ff);
-          small_discarded = subst (Below 513) (sym (column-discarded p.acts d f z r kept.act_rows))
-              (below_set 513 (row p.acts 1) d z kept.small_discarded zz);
-        }
+    -- A turn: what is noted is small. A block is taken in,
+    module _ (c : Choice) (e : c ≡ choice_at k d p) where
+      noted_long : length (set p.acts d (noted p.desk.held c)) ≡ 8
+      noted_long = length-set p.acts d (noted p.desk.held c) ∙ kept.long_acts
 
-    idle_kept : (r : ℕ) → Kept k (record { buffers = p.buffers; desk = p.desk; acts = column p.acts d 512 512 r })
-    idle_kept r = record {
-      held = kept.held;
-      desk_rows = kept.desk_rows;
-      small_nexts = kept.small_nexts;
-      small_helds = kept.small_helds;
-      small_looks = kept.small_looks;
-      act_rows = column_rows p.acts d 512 512 r kept.act_rows;
-      small_fetched = subst (Below 513) (sym (column-fetched p.acts d 512 512 r kept.act_rows))
-          (below_set 513 (row p.acts 0) d 512 kept.small_fetched (lit< tt));
-      small_discarded = subst (Below 513) (sym (column-discarded p.acts d 512 512 r kept.act_rows))
-          (below_set 513 (row p.acts 1) d 512 kept.small_discarded (lit< tt));
-    }
+      all_small : All SmallAction (set p.acts d (noted p.desk.held c))
+      all_small =
+          All-set SmallAction p.acts d (noted p.desk.held c) (noted_small p.desk.held kept.small_helds c (chosen-small c e)) kept.small_acts
+
+      taken_kept : (b : Buffers) (u place : ℕ) → u < 512 → ((e : ℕ) → e < length k.slots → get_or b.held e 0 ≤ get_or k.slots e 0)
+          → Kept k (record { buffers = b; desk = taken_in k.refs b.resident k.steps d u place p.desk; acts = set p.acts d (noted p.desk.held c) })
+      taken_kept b u place small held =
+          let t = rows_after k.refs b.resident k.steps d u place p.desk sized.few_refs sized.disk_steps in
+          let end = t.moved.within look_within in
+          record {
+            held = held;
+            small_nexts = subst (Below 4096) (sym t.same_nexts) kept.small_nexts;
+            small_helds = subst (Below 512) (sym t.new_helds) (below_set 512 p.desk.held place u kept.small_helds small);
+            small_looks = subst (Below (suc (length k.refs))) (sym t.new_looks)
+                (below_set (suc (length k.refs)) p.desk.look d t.end kept.small_looks (omega (arith, end)));
+            long_acts = noted_long;
+            small_acts = all_small;
+          }
+
+      -- or none is.
+      idle_kept : Kept k (record { buffers = p.buffers; desk = p.desk; acts = set p.acts d (noted p.desk.held c) })
+      idle_kept = record {
+        held = kept.held;
+        small_nexts = kept.small_nexts;
+        small_helds = kept.small_helds;
+        small_looks = kept.small_looks;
+        long_acts = noted_long;
+        small_acts = all_small;
+      }
 
     -- The sizes after a turn.
     pub turn_kept : (c : Choice) → c ≡ choice_at k d p → Kept k (after_turn k d p c)
-    unfolding noted fetch_into
+    unfolding fetch_into
     turn_kept (IntoEmpty u place) e =
         let f = chosen_placed (IntoEmpty u place) e in
-        let small = u_small u f.0 f.1 in
-        taken_kept (fetch_into p.buffers u d) u place u 512 0 small (omega (arith, small)) (lit< tt)
+        taken_kept (IntoEmpty u place) e (fetch_into p.buffers u d) u place (u_small u f.0 f.1)
         (λ x q. set-within p.buffers.held d (count + 1) x (get_or k.slots x 0) (kept.held x q)
         (λ same. let free = f.2 in let slots = ap (λ (y : ℕ). get_or k.slots y 0) same in omega (arith, free, slots)))
     turn_kept (OverMinBlock u place) e =
         let f = chosen_placed (OverMinBlock u place) e in
-        let small = u_small u f.0 f.1 in
         let one = sized.some_slot d l in
         let full = f.2 in
-        let out = below_any 512 (helds p.desk) (lit< tt) kept.small_helds place in
-        taken_kept (replace_in p.buffers (cell p.desk 2 place) u d) u place u (cell p.desk 2 place)
-        1 small (omega (arith, small))
-        (omega (arith, out))
-        (λ x q. replaced_held p.buffers (cell p.desk 2 place) u d x (omega (arith, one, full)) (get_or k.slots x 0) (kept.held x q))
-    turn_kept MinBlockSooner e = idle_kept 2
-    turn_kept Waits e = idle_kept 3
-    turn_kept NoneMissing e = idle_kept 4
+        let out = get_or p.desk.held place 0 in
+        taken_kept (OverMinBlock u place) e (replace_in p.buffers out u d) u place (u_small u f.0 f.1)
+        (λ x q. replaced_held p.buffers out u d x (omega (arith, one, full)) (get_or k.slots x 0) (kept.held x q))
+    turn_kept MinBlockSooner e = idle_kept MinBlockSooner e
+    turn_kept Waits e = idle_kept Waits e
+    turn_kept NoneMissing e = idle_kept NoneMissing e
+
+    -- What a fetch into an empty slot and one over the min-block are called with.
+    pub into_fits : (c : Choice) → c ≡ choice_at k d p → (u place : ℕ) → c ≡ IntoEmpty u place
+        → (u < 512) × (place < 512) × (d < 8) × (look ≤ length k.refs) × (count < 64)
+    into_fits c e u place is =
+        let small = chosen-small (IntoEmpty u place) (sym is ∙ e) in
+        let free = (chosen_placed (IntoEmpty u place) (sym is ∙ e)).2 in
+        let slots = sized.few_slots d l in
+        let disks = sized.few_disks in
+        (small.0, small.1, omega (arith, l, disks), look_within, omega (arith, free, slots))
+
+    pub over_fits : (c : Choice) → c ≡ choice_at k d p → (u place : ℕ) → c ≡ OverMinBlock u place
+        → (u < 512) × (place < 512) × (d < 8) × (look ≤ length k.refs) × (1 ≤ count) × (get_or p.desk.held place 0 < 512)
+    over_fits c e u place is =
+        let small = chosen-small (OverMinBlock u place) (sym is ∙ e) in
+        let full = (chosen_placed (OverMinBlock u place) (sym is ∙ e)).2 in
+        let slot = sized.some_slot d l in
+        let disks = sized.few_disks in (
+          small.0,
+          small.1,
+          omega (arith, l, disks),
+          look_within,
+          omega (arith, full, slot),
+          below_any 512 p.desk.held (lit< tt) kept.small_helds place,
+        )
 
   -- The sizes after a reference is read.
   pub read_kept : (p : PlanState) → Kept k p → p.buffers.next < length k.refs → Kept k (read_next k p)
   unfolding consume_one
   read_kept p kept more =
       let i = p.buffers.next in
-      let b = get_or k.refs i 0 in
-      let v = get_or (of_block k.steps) i 0 in
       record {
         held = kept.held;
-        desk_rows = length-set p.desk 0 (set (nexts p.desk) b v) ∙ kept.desk_rows;
-        small_nexts = below_cell 4096 p.desk 0 0 b v kept.small_nexts (λ _. sized.block_steps i more);
-        small_helds = subst (Below 512) (sym (row_other p.desk 0 2 b v (λ e. omega (arith, e)))) kept.small_helds;
-        small_looks = subst (Below (suc (length k.refs))) (sym (row_other p.desk 0 3 b v (λ e. omega (arith, e)))) kept.small_looks;
-        act_rows = kept.act_rows;
-        small_fetched = kept.small_fetched;
-        small_discarded = kept.small_discarded;
+        small_nexts = below_set 4096 p.desk.next (get_or k.refs i 0) (get_or k.steps.of_block i 0) kept.small_nexts (sized.block_steps i more);
+        small_helds = kept.small_helds;
+        small_looks = kept.small_looks;
+        long_acts = kept.long_acts;
+        small_acts = kept.small_acts;
       }

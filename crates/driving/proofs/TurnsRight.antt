@@ -11,16 +11,17 @@ use lib.Seq.{take-suc, get_or-set_same, get_or-set_other}
 use borrow.Author.Tests.{eqb-true, eqb-false}
 use Rattle.bits.proofs.Logic.{by_test}
 use Rattle.model.specs.Job.{Job, Sound, disk_count, block_count, ref_count, slots_of, disk_of, ref_at}
-use Rattle.model.specs.Playing.{Action, idle, fetch, replace, State, is_resident, load, act, act_all, fetched, discarded}
-use Rattle.model.specs.Rules.{over_min_block, action, distance, distance_now}
+use Rattle.model.specs.Playing.{Action as JobAction}
+use Rattle.model.specs.Playing.{idle, fetch, replace, State, is_resident, load, act, act_all, fetched, discarded}
+use Rattle.model.specs.Rules.{into_empty, over_min_block, action, distance, distance_now}
 use Rattle.model.specs.Rules.{Choice as RuleChoice, Rule as JobRule}
-use Rattle.model.specs.Page.{reason}
 use Rattle.model.specs.Valid.{Block, Legal, LegalAll, Ready}
 use Rattle.model.proofs.Buffers.{legal-take, taken, SameOn, load_same, load-round}
 use Rattle.model.proofs.Choosing.{Lawful, short_lawful, sparing_lawful, nothing, into, sooner, waiting, over, RuleView}
 use Rattle.model.proofs.Rounds.{own_action}
 use Rattle.model.proofs.Plans.{actions_of, actions_at, plan_round}
-use Rattle.lookup.specs.Desk.{row, cell, nexts, laters, helds, looks}
+use Rattle.lookup.specs.declared.Desk.{Desk}
+use Rattle.lookup.specs.declared.Steps.{Steps}
 use Rattle.playing.specs.Playing.{Holds, acted, fetch_into, replace_in}
 use Rattle.playing.specs.declared.Buffers.{Buffers}
 use Rattle.playing.proofs.Laws.{holds-fetch, holds-replace, holds_same}
@@ -34,10 +35,10 @@ use Rattle.choosing.proofs.DiskStaysRight.{disk_same, disk_elsewhere, pointed, p
 use Rattle.choosing.proofs.DiskStaysRight.{pointer_over, listed_into, listed_over, places_elsewhere}
 use Rattle.moving.proofs.PointerRight.{Moved, forward_ahead}
 use Rattle.choosing.proofs.Chosen.{Chooses, choice_is, choice_placed, Placed}
-use Rattle.acting.specs.Acting.{noted, taken_in, column}
-use Rattle.acting.proofs.AfterChoice.{rows_after, column-fetched, column-discarded, column-reason, column_rows}
-use Rattle.writing.specs.Writing.{action_of, action_in}
-use Rattle.writing.proofs.Packing.{action-idle, action-fetch, action-replace}
+use Rattle.acting.specs.Acting.{noted, taken_in}
+use Rattle.acting.proofs.AfterChoice.{rows_after, noted_is}
+use Rattle.writing.specs.Writing.{choice_of}
+use Rattle.writing.specs.declared.Action.{Action}
 use Rattle.driving.specs.Driving.{PlanInput, PlanState, choice_at, after_turn, turns}
 use Rattle.driving.proofs.Input.{input_of}
 
@@ -51,7 +52,7 @@ unfolding actions_of act_all
 mid_state rule j s d = record { resident = act_all s.resident (take d (actions_of rule j s)); next = s.next; round = s.round }
 
 -- actions one after the other
-act_all_append : (marks : List Bool) (l m : List Action) → act_all marks (l ++ m) ≡ act_all (act_all marks l) m
+act_all_append : (marks : List Bool) (l m : List JobAction) → act_all marks (l ++ m) ≡ act_all (act_all marks l) m
 unfolding act_all
 act_all_append marks [] m = refl
 act_all_append marks (a ∷ l) m = act_all_append (act marks a) l m
@@ -76,7 +77,7 @@ module _ (rule : JobRule) (lawful : Lawful rule) (j : Job) (sound : Sound j) (s 
   unfolding mid_state actions_of act
   mid_same d b l on =
       own_action j s.resident 0 (take d (actions_of rule j s)) (legal-take j s.resident 0 d (actions_of rule j s) legal) b d (omega arith)
-      ∙ ap (λ (a : Action). is_resident (act s.resident a) b)
+      ∙ ap (λ (a : JobAction). is_resident (act s.resident a) b)
       (get_or-eq_default (take d (actions_of rule j s)) idle {n = d} (let e = length-take d (actions_of rule j s) in omega (arith, e)))
 
   start-load : (d : ℕ) → load j (mid_state rule j s d).resident d ≡ load j s.resident d
@@ -105,94 +106,71 @@ module _ (rule : JobRule) (lawful : Lawful rule) (j : Job) (sound : Sound j) (s 
 pub record StandsFor (j : Job) (s : State) (p : PlanState) : Type 0 where
   pub holds : Holds j p.buffers s
   pub right : Right j s p.desk
-  pub rows : length p.acts ≡ 3
-  pub long_fetched : length (row p.acts 0) ≡ 8
-  pub long_discarded : length (row p.acts 1) ≡ 8
-  pub long_reasons : length (row p.acts 2) ≡ 8
+  pub long_acts : length p.acts ≡ 8
 
 -- What is known once the disks below d have acted, in a round from the state s.
 pub record AfterTurns (rule : JobRule) (j : Job) (s : State) (d : ℕ) (p : PlanState) : Type 0 where
   pub stands : StandsFor j (mid_state rule j s d) p
-  pub chosen : (e : ℕ) → e < d → action_in p.acts e ≡ action (rule j s e)
-  pub why : (e : ℕ) → e < d → cell p.acts 2 e ≡ reason (rule j s e)
+  pub chosen : (e : ℕ) → e < d → choice_of (get_or p.acts e Action.NoneMissing) ≡ rule j s e
 
 module _ (rule : JobRule) (lawful : Lawful rule) (j : Job) (sound : Sound j) (s : State) (ready : Ready j s) (d : ℕ) (l : d < disk_count j)
     {p : PlanState} (h : AfterTurns rule j s d p) where
   abbrev marks : List Bool
   marks = (mid_state rule j s d).resident
 
-  abbrev a : Action
+  abbrev a : JobAction
   a = action (rule j s d)
 
   -- The tables after disk d's action, put together: its own tables, and those of every other disk as they were.
-  after-action : {b : Buffers} {desk : List (List ℕ)} → Legal j marks d a → Holds j b (acted (mid_state rule j s d) a)
-      → DiskRight j (act marks a) s.next d (helds desk) (get_or (looks desk) d 0) (laters desk)
-      → ((e : ℕ) → e ≢ d → get_or (looks desk) e 0 ≡ get_or (looks p.desk) e 0)
-      → ((e i : ℕ) → e ≢ d → e < disk_count j → i < 64 → get_or (helds desk) (e * 64 + i) 0 ≡ get_or (helds p.desk) (e * 64 + i) 0)
-      → ((c : ℕ) → disk_of j c ≢ d → get_or (laters desk) c 0 ≡ get_or (laters p.desk) c 0)
-      → nexts desk ≡ nexts p.desk → length desk ≡ 4 → length (helds desk) ≡ 512 → length (looks desk) ≡ 512 → length (laters desk) ≡ 512
-      → (f z r : ℕ) → action_of f z ≡ a → r ≡ reason (rule j s d)
-      → AfterTurns rule j s (suc d) (record { buffers = b; desk = desk; acts = column p.acts d f z r })
+  after-action : {b : Buffers} {desk : Desk} → Legal j marks d a → Holds j b (acted (mid_state rule j s d) a)
+      → DiskRight j (act marks a) s.next d desk.held (get_or desk.look d 0) desk.later
+      → ((e : ℕ) → e ≢ d → get_or desk.look e 0 ≡ get_or p.desk.look e 0)
+      → ((e i : ℕ) → e ≢ d → e < disk_count j → i < 64 → get_or desk.held (e * 64 + i) 0 ≡ get_or p.desk.held (e * 64 + i) 0)
+      → ((c : ℕ) → disk_of j c ≢ d → get_or desk.later c 0 ≡ get_or p.desk.later c 0)
+      → desk.next ≡ p.desk.next → length desk.held ≡ 512 → length desk.look ≡ 512 → length desk.later ≡ 512
+      → (x : Action) → choice_of x ≡ rule j s d
+      → AfterTurns rule j s (suc d) (record { buffers = b; desk = desk; acts = set p.acts d x })
   unfolding mid_state
-  after-action {b} {desk} legal' holds own looks' places laters' nexts' rows long₁ long₂ long₃ f z r is why =
+  after-action {b} {desk} legal' holds own looks' places laters' nexts' long₁ long₂ long₃ x is =
       let e = mid_next rule lawful j sound s ready d l in
       let eight = sound.few_disks in
-      let lf = h.stands.long_fetched in
-      let ld = h.stands.long_discarded in
-      let lr = h.stands.long_reasons in
-      let ef = column-fetched p.acts d f z r h.stands.rows in
-      let ez = column-discarded p.acts d f z r h.stands.rows in
-      let er = column-reason p.acts d f z r h.stands.rows in
+      let la = h.stands.long_acts in
       record {
         stands = record {
           holds = holds_same j b (acted (mid_state rule j s d) a) (mid_state rule j s (suc d)) (sym e) refl holds;
           right = record {
-            disks = λ k kl. subst (λ (m : List Bool). DiskRight j m s.next k (helds desk) (get_or (looks desk) k 0) (laters desk)) (sym e)
+            disks = λ k kl. subst (λ (m : List Bool). DiskRight j m s.next k desk.held (get_or desk.look k 0) desk.later) (sym e)
                 (by_test (eqb k d)
                 (λ y. let same = eqb-true k d y in
-                subst (λ (x : ℕ). DiskRight j (act marks a) s.next x (helds desk) (get_or (looks desk) x 0) (laters desk)) (sym same) own)
+                subst (λ (z : ℕ). DiskRight j (act marks a) s.next z desk.held (get_or desk.look z 0) desk.later) (sym same) own)
                 (λ n. let other = eqb-false k d n in
-                subst (λ (x : ℕ). DiskRight j (act marks a) s.next k (helds desk) x (laters desk)) (sym (looks' k other))
+                subst (λ (z : ℕ). DiskRight j (act marks a) s.next k desk.held z desk.later) (sym (looks' k other))
                 (disk_elsewhere a sound other legal' (mid_few rule lawful j sound s ready d k kl) (λ i q. places k i other kl q) laters'
                 (h.stands.right.disks k kl))));
             distances = λ c q. ap (λ (t : List ℕ). get_or t c 0) nexts' ∙ h.stands.right.distances c q;
-            rows = rows;
             long_nexts = ap length nexts' ∙ h.stands.right.long_nexts;
             long_laters = long₃;
             long_helds = long₁;
             long_looks = long₂;
           };
-          rows = column_rows p.acts d f z r h.stands.rows;
-          long_fetched = ap length ef ∙ length-set (row p.acts 0) d f ∙ lf;
-          long_discarded = ap length ez ∙ length-set (row p.acts 1) d z ∙ ld;
-          long_reasons = ap length er ∙ length-set (row p.acts 2) d r ∙ lr;
+          long_acts = length-set p.acts d x ∙ la;
         };
         chosen = λ k kl. by_test (eqb k d)
-            (λ y. let same = eqb-true k d y in
-            subst (λ (x : ℕ). action_in (column p.acts d f z r) x ≡ action (rule j s x)) (sym same)
-            (rw (ef, ez, get_or-set_same (row p.acts 0) d f 0 (omega (arith, lf)), get_or-set_same (row p.acts 1) d z 0 (omega (arith, ld))) is))
+            (λ y. rw (eqb-true k d y, get_or-set_same p.acts d x Action.NoneMissing (omega (arith, la))) is)
             (λ n. let other = eqb-false k d n in
-            rw (ef, ez, get_or-set_other (row p.acts 0) d k f 0 other, get_or-set_other (row p.acts 1) d k z 0 other)
-            (h.chosen k (lib.Arith.lt_of_le-ne (omega arith) other)));
-        why = λ k kl. by_test (eqb k d)
-            (λ y. let same = eqb-true k d y in
-            rw (same, er, get_or-set_same (row p.acts 2) d r 0 (omega (arith, lr))) why)
-            (λ n. let other = eqb-false k d n in
-            rw (er, get_or-set_other (row p.acts 2) d k r 0 other) (h.why k (lib.Arith.lt_of_le-ne (omega arith) other)));
+            rw (get_or-set_other p.acts d k x Action.NoneMissing other) (h.chosen k (lib.Arith.lt_of_le-ne (omega arith) other)));
       }
 
   -- nothing is fetched
-  step_idle : a ≡ idle → (r : ℕ) → r ≡ reason (rule j s d)
-      → AfterTurns rule j s (suc d) (record { buffers = p.buffers; desk = p.desk; acts = column p.acts d 512 512 r })
+  step_idle : a ≡ idle → (x : Action) → choice_of x ≡ rule j s d
+      → AfterTurns rule j s (suc d) (record { buffers = p.buffers; desk = p.desk; acts = set p.acts d x })
   unfolding mid_state act Legal
-  step_idle e r why =
+  step_idle e x is =
+      let right = h.stands.right in
       after-action (subst (Legal j marks d) (sym e) tt)
-      (subst (λ (x : Action). Holds j p.buffers (acted (mid_state rule j s d) x)) (sym e) h.stands.holds)
-      (subst (λ (x : Action). DiskRight j (act marks x) s.next d (helds p.desk) (get_or (looks p.desk) d 0) (laters p.desk)) (sym e)
-      (h.stands.right.disks d l))
-      (λ k n. refl) (λ k i n kl q. refl) (λ c n. refl) refl h.stands.right.rows h.stands.right.long_helds h.stands.right.long_looks
-      h.stands.right.long_laters
-      512 512 r (action-idle 512 512 refl ∙ sym e) why
+      (subst (λ (y : JobAction). Holds j p.buffers (acted (mid_state rule j s d) y)) (sym e) h.stands.holds)
+      (subst (λ (y : JobAction). DiskRight j (act marks y) s.next d p.desk.held (get_or p.desk.look d 0) p.desk.later) (sym e) (right.disks d l))
+      (λ k n. refl) (λ k i n kl q. refl) (λ c n. refl) refl right.long_helds right.long_looks right.long_laters x is
 
   long-marks : block_count j ≤ length marks
   long-marks =
@@ -201,102 +179,98 @@ module _ (rule : JobRule) (lawful : Lawful rule) (j : Job) (sound : Sound j) (s 
       let few = sound.few_blocks in
       omega (arith, b, m, few)
 
-  module _ {steps : List (List ℕ)} (forward : Forward j steps) (more : get_or (looks p.desk) d 0 < ref_count j) where
+  module _ {steps : Steps} (forward : Forward j steps) (more : get_or p.desk.look d 0 < ref_count j) where
     abbrev look : ℕ
-    look = get_or (looks p.desk) d 0
+    look = get_or p.desk.look d 0
 
     abbrev u : ℕ
     u = ref_at j look
 
-    here : DiskRight j marks s.next d (helds p.desk) look (laters p.desk)
+    here : DiskRight j marks s.next d p.desk.held look p.desk.later
     unfolding mid_state
     here = h.stands.right.disks d l
 
-    wide : block_count j ≤ length (laters p.desk)
+    wide : block_count j ≤ length p.desk.later
     wide = let b = h.stands.right.long_laters in let few = sound.few_blocks in omega (arith, b, few)
 
     small_u : u < 512
     small_u = let k = sound.to_blocks look more in let few = sound.few_blocks in omega (arith, k, few)
 
-    not_none : (x : ℕ) → x < 512 → x ≡ 512 → ⊥
-    not_none x q e = omega arith
-
     -- U is taken in at a place of its disk, with the disk's action
     own_step : {b : Buffers} → Legal j marks d a → Holds j b (acted (mid_state rule j s d) a) → (place : ℕ) → d * 64 ≤ place → place < d * 64 + 64
-        → Listed j (act marks a) d (set (helds p.desk) place u) (load j (act marks a) d)
-        → Pointer j (act marks a) s.next d look (laters p.desk)
-        → (f z r : ℕ) → action_of f z ≡ a → r ≡ reason (rule j s d)
+        → Listed j (act marks a) d (set p.desk.held place u) (load j (act marks a) d)
+        → Pointer j (act marks a) s.next d look p.desk.later
+        → (x : Action) → choice_of x ≡ rule j s d
         → AfterTurns rule j s (suc d)
-        (record { buffers = b; desk = taken_in j.refs b.resident steps d u place p.desk; acts = column p.acts d f z r })
-    own_step {b} legal' holds place lo hi listed pointer f z r is why =
-        let t = rows_after j.refs b.resident steps d u place p.desk h.stands.right.rows sound.few_refs (forward_ahead forward) in
+        (record { buffers = b; desk = taken_in j.refs b.resident steps d u place p.desk; acts = set p.acts d x })
+    own_step {b} legal' holds place lo hi listed pointer x is =
+        let t = rows_after j.refs b.resident steps d u place p.desk sound.few_refs (forward_ahead forward) in
         let desk = taken_in j.refs b.resident steps d u place p.desk in
         let longLook = h.stands.right.long_looks in
         let eight = sound.few_disks in
-        let moved : Moved j.refs (act marks a) steps (laters p.desk) look t.end (laters desk) =
-        subst (λ (m : List Bool). Moved j.refs m steps (laters p.desk) look t.end (laters desk)) holds.marks t.moved in
+        let moved : Moved j.refs (act marks a) steps p.desk.later look t.end desk.later =
+        subst (λ (m : List Bool). Moved j.refs m steps p.desk.later look t.end desk.later) holds.marks t.moved in
         let stops : t.end < ref_count j → is_resident (act marks a) (ref_at j t.end) ≡ false =
         subst (λ (m : List Bool). t.end < ref_count j → is_resident m (ref_at j t.end) ≡ false) holds.marks t.stops in
-        let at : get_or (looks desk) d 0 ≡ t.end =
-        ap (λ (x : List ℕ). get_or x d 0) t.new_looks ∙ get_or-set_same (looks p.desk) d t.end 0 (omega (arith, l, longLook, eight)) in
+        let at : get_or desk.look d 0 ≡ t.end =
+        ap (λ (y : List ℕ). get_or y d 0) t.new_looks ∙ get_or-set_same p.desk.look d t.end 0 (omega (arith, l, longLook, eight)) in
         let goes = moved.right j s.next d refl sound forward wide pointer in
         after-action legal' holds
         (rw (t.new_helds, at) (record { listed = listed; pointer = goes.0; stops = stops }))
-        (λ k n. ap (λ (x : List ℕ). get_or x k 0) t.new_looks ∙ get_or-set_other (looks p.desk) d k t.end 0 n)
-        (λ k i n kl q. ap (λ (x : List ℕ). get_or x (k * 64 + i) 0) t.new_helds ∙ places_elsewhere (helds p.desk) d k place u i n lo hi q)
+        (λ k n. ap (λ (y : List ℕ). get_or y k 0) t.new_looks ∙ get_or-set_other p.desk.look d k t.end 0 n)
+        (λ k i n kl q. ap (λ (y : List ℕ). get_or y (k * 64 + i) 0) t.new_helds ∙ places_elsewhere p.desk.held d k place u i n lo hi q)
         (λ c n. goes.1 c (λ _. n))
-        t.same_nexts t.rows
-        (ap length t.new_helds ∙ length-set (helds p.desk) place u ∙ h.stands.right.long_helds)
-        (ap length t.new_looks ∙ length-set (looks p.desk) d t.end ∙ longLook)
+        t.same_nexts
+        (ap length t.new_helds ∙ length-set p.desk.held place u ∙ h.stands.right.long_helds)
+        (ap length t.new_looks ∙ length-set p.desk.look d t.end ∙ longLook)
         (moved.long ∙ h.stands.right.long_laters)
-        f z r is why
+        x is
 
     -- U enters an empty slot
-    step_into : a ≡ fetch u → load j marks d < slots_of j d → (r : ℕ) → r ≡ reason (rule j s d)
+    step_into : a ≡ fetch u → load j marks d < slots_of j d → (x : Action) → choice_of x ≡ rule j s d
         → AfterTurns rule j s (suc d) (record {
           buffers = fetch_into p.buffers u d;
           desk = taken_in j.refs (fetch_into p.buffers u d).resident steps d u (d * 64 + load j marks d) p.desk;
-          acts = column p.acts d u 512 r;
+          acts = set p.acts d x;
         })
     unfolding Legal
-    step_into e free r why =
+    step_into e free x is =
         let new = pointed sound here more in
         let slots = sound.few_slots d l in
         own_step (subst (Legal j marks d) (sym e) new)
-        (subst (λ (x : Action). Holds j (fetch_into p.buffers u d) (acted (mid_state rule j s d) x)) (sym e)
+        (subst (λ (x : JobAction). Holds j (fetch_into p.buffers u d) (acted (mid_state rule j s d) x)) (sym e)
         (holds-fetch j p.buffers (mid_state rule j s d) h.stands.holds sound.few_blocks sound.few_disks d l u new))
         (d * 64 + load j marks d) (omega arith) (omega (arith, free, slots))
-        (subst (λ (x : Action). Listed j (act marks x) d (set (helds p.desk) (d * 64 + load j marks d) u) (load j (act marks x) d)) (sym e)
+        (subst (λ (x : JobAction). Listed j (act marks x) d (set p.desk.held (d * 64 + load j marks d) u) (load j (act marks x) d)) (sym e)
         (listed_into sound here more l long-marks h.stands.right.long_helds free))
-        (subst (λ (x : Action). Pointer j (act marks x) s.next d look (laters p.desk)) (sym e) (pointer_into sound here more))
-        u 512 r (action-fetch u 512 (not_none u small_u) refl ∙ sym e) why
+        (subst (λ (x : JobAction). Pointer j (act marks x) s.next d look p.desk.later) (sym e) (pointer_into sound here more))
+        x is
 
     -- U takes the place of the resident at `place`
-    step_over : (place : ℕ) → d * 64 ≤ place → place < d * 64 + load j marks d → a ≡ replace u (cell p.desk 2 place)
-        → look ≤ distance j.refs s.next (cell p.desk 2 place) → (r : ℕ) → r ≡ reason (rule j s d)
+    step_over : (place : ℕ) → d * 64 ≤ place → place < d * 64 + load j marks d → a ≡ replace u (get_or p.desk.held place 0)
+        → look ≤ distance j.refs s.next (get_or p.desk.held place 0) → (x : Action) → choice_of x ≡ rule j s d
         → AfterTurns rule j s (suc d) (record {
-          buffers = replace_in p.buffers (cell p.desk 2 place) u d;
-          desk = taken_in j.refs (replace_in p.buffers (cell p.desk 2 place) u d).resident steps d u place p.desk;
-          acts = column p.acts d u (cell p.desk 2 place) r;
+          buffers = replace_in p.buffers (get_or p.desk.held place 0) u d;
+          desk = taken_in j.refs (replace_in p.buffers (get_or p.desk.held place 0) u d).resident steps d u place p.desk;
+          acts = set p.acts d x;
         })
     unfolding Legal
-    step_over place lo hi e far r why =
-        let v = cell p.desk 2 place in
+    step_over place lo hi e far x is =
+        let v = get_or p.desk.held place 0 in
         let new = pointed sound here more in
         let at : d * 64 + (place - d * 64) ≡ place = omega arith in
         let old : Block j marks d v true =
-        subst (λ (x : ℕ). Block j marks d (cell p.desk 2 x) true) at (here.listed.each (place - d * 64) (omega arith)) in
+        subst (λ (x : ℕ). Block j marks d (get_or p.desk.held x 0) true) at (here.listed.each (place - d * 64) (omega arith)) in
         let loads = mid_load rule lawful j sound s ready d d l in
         let slots = sound.few_slots d l in
-        let small-v : v < 512 = (let k = old.known in let few = sound.few_blocks in omega (arith, k, few)) in
         own_step (subst (Legal j marks d) (sym e) (new, old))
-        (subst (λ (x : Action). Holds j (replace_in p.buffers v u d) (acted (mid_state rule j s d) x)) (sym e)
+        (subst (λ (x : JobAction). Holds j (replace_in p.buffers v u d) (acted (mid_state rule j s d) x)) (sym e)
         (holds-replace j p.buffers (mid_state rule j s d) h.stands.holds sound.few_blocks sound.few_disks d l u v new old))
         place lo (omega (arith, loads, slots))
-        (subst (λ (x : Action). Listed j (act marks x) d (set (helds p.desk) place u) (load j (act marks x) d)) (sym e)
+        (subst (λ (x : JobAction). Listed j (act marks x) d (set p.desk.held place u) (load j (act marks x) d)) (sym e)
         (listed_over sound here more l long-marks h.stands.right.long_helds loads place lo hi))
-        (subst (λ (x : Action). Pointer j (act marks x) s.next d look (laters p.desk)) (sym e) (pointer_over sound here more v far))
-        u v r (action-replace u v (not_none u small_u) (not_none v small-v) ∙ sym e) why
+        (subst (λ (x : JobAction). Pointer j (act marks x) s.next d look p.desk.later) (sym e) (pointer_over sound here more v far))
+        x is
 
 -- a rule that replaces the min-block finds it no sooner than U
 over_far : (j : Job) (s : State) (d u v : ℕ) (c : RuleChoice) → RuleView j s d c → c ≡ over_min_block u v → distance_now j s u ≤ distance_now j s v
@@ -311,7 +285,7 @@ over_far j s d u v c (over x y n f l p _) e =
     let p₂ = ap (distance_now j s) b in
     omega (arith, p, p₁, p₂)
 
-module _ (rule : Rule) (j : Job) (sound : Sound j) {steps : List (List ℕ)} (forward : Forward j steps) (s : State) (ready : Ready j s) where
+module _ (rule : Rule) (j : Job) (sound : Sound j) {steps : Steps} (forward : Forward j steps) (s : State) (ready : Ready j s) where
   abbrev r : JobRule
   r = rule_of rule
 
@@ -337,46 +311,48 @@ module _ (rule : Rule) (j : Job) (sound : Sound j) {steps : List (List ℕ)} (fo
     }
 
     module _ (c : Choice) (e : c ≡ choice_at k d p) where
-      placed : Placed j.refs (get_or (looks p.desk) d 0) (d * 64) (get_or p.buffers.held d 0) (slots_of j d) c
+      placed : Placed j.refs (get_or p.desk.look d 0) (d * 64) (get_or p.buffers.held d 0) (slots_of j d) c
       placed =
-          subst (Placed j.refs (get_or (looks p.desk) d 0) (d * 64) (get_or p.buffers.held d 0) (slots_of j d)) (sym e)
+          subst (Placed j.refs (get_or p.desk.look d 0) (d * 64) (get_or p.buffers.held d 0) (slots_of j d)) (sym e)
           (choice_placed j.refs rule d (get_or p.buffers.held d 0) (slots_of j d) p.desk (sound.some_slot d l))
 
-      rule_is : meaning (helds p.desk) c ≡ r j s d
-      rule_is = ap (meaning (helds p.desk)) e ∙ choice_is chooses rule
+      rule_is : meaning p.desk.held c ≡ r j s d
+      rule_is = ap (meaning p.desk.held) e ∙ choice_is chooses rule
 
     -- U is found where the desk's pointer stands, so the min-block is referenced no sooner
     far_enough : (u place : ℕ) → OverMinBlock u place ≡ choice_at k d p
-        → get_or (looks p.desk) d 0 ≤ distance j.refs s.next (cell p.desk 2 place)
+        → get_or p.desk.look d 0 ≤ distance j.refs s.next (get_or p.desk.held place 0)
     unfolding mid_state
     far_enough u place e =
         let f = placed (OverMinBlock u place) e in
-        let look = get_or (looks p.desk) d 0 in
-        let v = over_far j s d u (cell p.desk 2 place) (r j s d) (lawful j s d (sound.some_slot d l)) (sym (rule_is (OverMinBlock u place) e)) in
+        let look = get_or p.desk.look d 0 in
+        let v = over_far j s d u (get_or p.desk.held place 0) (r j s d) (lawful j s d (sound.some_slot d l)) (sym (rule_is (OverMinBlock u place) e)) in
         let right = chooses.right in
         let q = right.pointer.least (ref_at j look) (sound.to_blocks look f.0) (right.pointer.on_disk f.0) (right.stops f.0) in
         let same = ap (distance_now j s) f.1 in
         omega (arith, v, q, same)
 
+    written : (c : Choice) → c ≡ choice_at k d p → choice_of (noted p.desk.held c) ≡ r j s d
+    written c e = noted_is p.desk.held c ∙ rule_is c e
+
     turn_step : (c : Choice) → c ≡ choice_at k d p → AfterTurns r j s (suc d) (after_turn k d p c)
-    unfolding noted
     turn_step (IntoEmpty u place) e =
         let f = placed (IntoEmpty u place) e in
         let same = f.1 in
         let at : place ≡ d * 64 + load j (mid_state r j s d).resident d = (let n = counted in let q = f.3 in omega (arith, n, q)) in
+        let is = ap into_empty (sym same) ∙ written (IntoEmpty u place) e in
         rw (at, same) (step_into r lawful j sound s ready d l h forward f.0 (ap action (sym (rule_is (IntoEmpty u place) e)) ∙ ap fetch same)
-        (let n = counted in let q = f.2 in omega (arith, n, q)) 0
-        (ap reason (rule_is (IntoEmpty u place) e)))
+        (let n = counted in let q = f.2 in omega (arith, n, q)) _ is)
     turn_step (OverMinBlock u place) e =
         let f = placed (OverMinBlock u place) e in
         let same = f.1 in
-        let v = cell p.desk 2 place in
+        let v = get_or p.desk.held place 0 in
+        let is = ap (λ (y : ℕ). over_min_block y v) (sym same) ∙ written (OverMinBlock u place) e in
         rw same (step_over r lawful j sound s ready d l h forward f.0 place f.3 (let n = counted in let q = f.4 in omega (arith, n, q))
-        (ap action (sym (rule_is (OverMinBlock u place) e)) ∙ ap (λ (x : ℕ). replace x v) same) (far_enough u place e)
-        1 (ap reason (rule_is (OverMinBlock u place) e)))
-    turn_step MinBlockSooner e = step_idle r lawful j sound s ready d l h (ap action (sym (rule_is MinBlockSooner e))) 2 (ap reason (rule_is MinBlockSooner e))
-    turn_step Waits e = step_idle r lawful j sound s ready d l h (ap action (sym (rule_is Waits e))) 3 (ap reason (rule_is Waits e))
-    turn_step NoneMissing e = step_idle r lawful j sound s ready d l h (ap action (sym (rule_is NoneMissing e))) 4 (ap reason (rule_is NoneMissing e))
+        (ap action (sym (rule_is (OverMinBlock u place) e)) ∙ ap (λ (y : ℕ). replace y v) same) (far_enough u place e) _ is)
+    turn_step MinBlockSooner e = step_idle r lawful j sound s ready d l h (ap action (sym (rule_is MinBlockSooner e))) _ (written MinBlockSooner e)
+    turn_step Waits e = step_idle r lawful j sound s ready d l h (ap action (sym (rule_is Waits e))) _ (written Waits e)
+    turn_step NoneMissing e = step_idle r lawful j sound s ready d l h (ap action (sym (rule_is NoneMissing e))) _ (written NoneMissing e)
 
   -- all turns
   pub at_disk : (p : PlanState) → AfterTurns r j s 0 p → (d : ℕ) → d ≤ disk_count j → AfterTurns r j s d (turns k d p)

@@ -3,16 +3,18 @@ use mathlib.Core.Path.{◌≡◌, refl, sym, ap, ap₂, ◌∙◌}
 use mathlib.Core.List.{List, [], ◌∷◌, ◌++◌, append-nil, append_assoc}
 use Prim.Native.Nat.{ℕ, zero, suc, ◌+◌, ◌*◌, ◌≤◌, ◌<◌}
 use native.Mathlib.Omega.{arith}
-use lib.Dec.{ltb, lit<}
-use lib.ListN.{length, get_or, set, replicate, length-set, length-append, get_or-eq_default}
+use lib.Dec.{lit<}
+use lib.ListN.{length, get_or, set, replicate, length-set, length-append, get_or-map}
+use Rattle.std.proofs.lemmas.List.{length-map}
 use lib.Seq.{ext_get_or}
-use borrow.Author.Tests.{ltb-true, ltb-false}
 use Rattle.bits.specs.Bits.{digits, leading, bytes, Below}
 use Rattle.bits.specs.Fields.{put_bits, ClearFrom}
-use Rattle.bits.proofs.Logic.{by_test, Each}
+use Rattle.bits.proofs.Logic.{Each}
 use Rattle.bits.proofs.Bits.{Bits, append_bits, length-bytes, length_digits}
 use Rattle.bits.proofs.Fields.{put_packed, clear_packed, bytes-none}
-use Rattle.model.specs.Playing.{Action, idle, Schedule, fetched, total, fetches}
+use Rattle.model.specs.Playing.{Action as JobAction}
+use Rattle.model.specs.Playing.{Schedule, fetched, total, fetches}
+use Rattle.model.specs.Rules.{none_missing, action}
 use Rattle.model.specs.Plans.{each}
 use Rattle.model.specs.Sheet.{round_bits, rounds_bits, sheet_bits}
 use Rattle.model.proofs.Charged.{total-after, total_most}
@@ -21,21 +23,23 @@ use Rattle.model.proofs.Plans.{length-each, get_d_each}
 use Rattle.model.proofs.Bytes.{rounds-bits}
 use Rattle.writing.specs.Heading.{headed}
 use Rattle.writing.specs.Tallying.{tallied}
-use Rattle.writing.specs.Writing.{action_in, actions_in}
+use Rattle.writing.specs.Writing.{choice_of, choices_in, actions_in}
+use Rattle.writing.specs.declared.Action.{Action}
+use Rattle.writing.specs.declared.Action.TheVariants.{NoneMissing}
 use Rattle.writing.proofs.Headed.{headed-bytes, header_room}
 use Rattle.writing.proofs.Packing.{round-bits_are}
-use Rattle.writing.proofs.Tallied.{tallied-length, tallied_kept, tallied_at}
+use Rattle.writing.proofs.Tallied.{tallied-length, tallied_at}
 use Rattle.driving.specs.Driving.{totals_of}
 
 -- one round more at the end of a schedule
 
-rounds_more : (done : Schedule) (a : List Action) → rounds_bits (done ++ (a ∷ [])) ≡ rounds_bits done ++ round_bits a
+rounds_more : (done : Schedule) (a : List JobAction) → rounds_bits (done ++ (a ∷ [])) ≡ rounds_bits done ++ round_bits a
 unfolding rounds_bits
 rounds_more [] a = append-nil (round_bits a)
 rounds_more (b ∷ done) a = ap (λ (l : List ℕ). round_bits b ++ l) (rounds_more done a)
     ∙ sym (append_assoc (round_bits b) (rounds_bits done) (round_bits a))
 
-each_more : (P : List Action → Type 0) (done : Schedule) (a : List Action) → Each P done → P a → Each P (done ++ (a ∷ []))
+each_more : (P : List JobAction → Type 0) (done : Schedule) (a : List JobAction) → Each P done → P a → Each P (done ++ (a ∷ []))
 unfolding Each
 each_more P [] a h p = (p, tt)
 each_more P (b ∷ done) a h p = (h.0, each_more P done a h.1 p)
@@ -51,7 +55,7 @@ pub record Written (done : Schedule) (counts sheet : List ℕ) (played at : ℕ)
   pub counted : counts ≡ each (fetches done) 0 8
   pub wrote : sheet ≡ bytes 40968 (replicate 12 0 ++ rounds_bits done)
   pub place : at ≡ 12 + length (rounds_bits done)
-  pub eight : Each (λ (actions : List Action). length actions ≤ 8) done
+  pub eight : Each (λ (actions : List JobAction). length actions ≤ 8) done
 
 -- nothing so far
 pub written_none : (sheet : List ℕ) → sheet ≡ replicate 40968 0 → Written [] (replicate 8 0) sheet 0 12
@@ -102,41 +106,30 @@ module _ {done : Schedule} {counts sheet : List ℕ} {played at : ℕ} (w : Writ
       omega (arith, c, t, m, few)
 
   -- one round more
-  module _ (acts : List (List ℕ)) (disks : ℕ) (few : disks ≤ 8) where
-    abbrev actions : List Action
-    actions = actions_in acts disks
+  module _ (acts : List Action) (few : length acts ≤ 8) where
+    abbrev actions : List JobAction
+    actions = actions_in acts
 
-    actions_many : length (actions_in acts disks) ≡ disks
-    unfolding actions_in
-    actions_many = length-each (action_in acts) 0 disks
+    actions_many : length actions ≡ length acts
+    actions_many = length-map (choices_in acts) action ∙ length-map acts choice_of
 
-    action-at : (d : ℕ) → d < disks → get_or (actions_in acts disks) d idle ≡ action_in acts d
-    unfolding actions_in
-    action-at d l = get_d_each (action_in acts) 0 disks d idle l ∙ ap (action_in acts) (let e : 0 + d ≡ d = omega arith in e)
-
-    count_more : (d : ℕ) → d < 8 → get_or (tallied counts acts disks) d 0 ≡ total fetched d (done ++ (actions ∷ []))
+    count_more : (d : ℕ) → d < 8 → get_or (tallied counts acts) d 0 ≡ total fetched d (done ++ (actions ∷ []))
     unfolding total
     count_more d l =
         let was = count_at d l in
         let more = total-after fetched d done (actions ∷ []) in
         let long = long-counts in
-        by_test (ltb d disks)
-        (λ y. let inside = ltb-true d disks y in
-        let t = tallied_at counts acts disks d (get_or (get_or acts 1 []) d 0) (omega (arith, long, few)) inside in
-        let a = ap fetched (action-at d inside) in
-        omega (arith, was, more, t, a))
-        (λ n. let past = ltb-false d disks n in
-        let t = tallied_kept counts acts disks d past in
-        let a = ap fetched (get_or-eq_default actions idle {n = d} (let m = actions_many in omega (arith, m, past))) in
-        omega (arith, was, more, t, a))
+        let t = tallied_at counts acts d (omega (arith, long)) in
+        let a = get_or-map action (choices_in acts) d none_missing ∙ ap action (get_or-map choice_of acts d NoneMissing) in
+        omega (arith, was, more, t, ap fetched a)
 
-    pub written_more : played < 2048 → {counts' sheet' : List ℕ} {at' : ℕ} → counts' ≡ tallied counts acts disks
+    pub written_more : played < 2048 → {counts' sheet' : List ℕ} {at' : ℕ} → counts' ≡ tallied counts acts
         → sheet' ≡ put_bits sheet at (round_bits actions)
         → at' ≡ at + length (round_bits actions) → Written (done ++ (actions ∷ [])) counts' sheet' (played + 1) at'
     unfolding fetches
     written_more small {counts'} {sheet'} {at'} ec es ea =
         let bits = rounds_more done actions in
-        let eight' = each_more (λ (l : List Action). length l ≤ 8) done actions w.eight (let m = actions_many in omega (arith, m, few)) in
+        let eight' = each_more (λ (l : List JobAction). length l ≤ 8) done actions w.eight (let m = actions_many in omega (arith, m, few)) in
         let longest = length-rounds (done ++ (actions ∷ [])) eight' in
         let many = w.many in
         let place = w.place in
@@ -144,9 +137,9 @@ module _ {done : Schedule} {counts sheet : List ℕ} {played at : ℕ} (w : Writ
         let total-bits = ap length bits ∙ length-append (rounds_bits done) (round_bits actions) in
         record {
           many = omega (arith, many, one);
-          counted = ec ∙ ext_get_or 0 (tallied counts acts disks) (each (fetches (done ++ (actions ∷ []))) 0 8)
-              (tallied-length counts acts disks ∙ long-counts ∙ sym (length-each (fetches (done ++ (actions ∷ []))) 0 8))
-              (λ d l. let n = tallied-length counts acts disks in let m = long-counts in let inside : d < 8 = omega (arith, l, n, m) in
+          counted = ec ∙ ext_get_or 0 (tallied counts acts) (each (fetches (done ++ (actions ∷ []))) 0 8)
+              (tallied-length counts acts ∙ long-counts ∙ sym (length-each (fetches (done ++ (actions ∷ []))) 0 8))
+              (λ d l. let n = tallied-length counts acts in let m = long-counts in let inside : d < 8 = omega (arith, l, n, m) in
               count_more d inside ∙ sym (get_d_each (fetches (done ++ (actions ∷ []))) 0 8 d 0 inside
               ∙ ap (fetches (done ++ (actions ∷ []))) (let e : 0 + d ≡ d = omega arith in e)));
           wrote = es

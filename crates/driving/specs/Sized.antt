@@ -1,9 +1,9 @@
 -- The sizes of what a plan is driven with: no index is past a table, no number past its type. Assumes nothing.
 use Rattle.std.specs.Prelude.{◌≡◌, ℕ, suc, ◌≤◌, ◌<◌, length, get_or}
+use Rattle.std.specs.List.{All}
 use Rattle.bits.specs.Bits.{Below}
-use Rattle.lookup.specs.Desk.{row, nexts, helds, looks, of_block, of_disk}
 use Rattle.moving.specs.Moving.{Ahead}
-use Rattle.writing.specs.Writing.{FETCHED, DISCARDED}
+use Rattle.writing.specs.Writing.{Small}
 use Rattle.driving.specs.Driving.{PlanInput, PlanState}
 
 -- What does not change: up to eight disks of 1 to 64 slots, up to 2,048 references to blocks of the 512, and steps that lead on and not too far.
@@ -13,16 +13,14 @@ pub record Sized (k : PlanInput) : Type 0 where
   pub few_slots : (d : ℕ) → d < length k.slots → get_or k.slots d 0 ≤ 64
   pub few_refs : length k.refs ≤ 2048
   pub small_refs : Below 512 k.refs
-  pub block_steps : (i : ℕ) → i < length k.refs → get_or (of_block k.steps) i 0 < 4096
-  pub disk_steps : Ahead (length k.refs) (of_disk k.steps)
+  pub block_steps : (i : ℕ) → i < length k.refs → get_or k.steps.of_block i 0 < 4096
+  pub disk_steps : Ahead (length k.refs) k.steps.of_disk
 
 -- What each turn and each reading keep: no disk holds more than its slots, and what the rows hold stays small.
 pub record Kept (k : PlanInput) (p : PlanState) : Type 0 where
   pub held : (d : ℕ) → d < length k.slots → get_or p.buffers.held d 0 ≤ get_or k.slots d 0
-  pub desk_rows : length p.desk ≡ 4
-  pub small_nexts : Below 4096 (nexts p.desk)
-  pub small_helds : Below 512 (helds p.desk)
-  pub small_looks : Below (suc (length k.refs)) (looks p.desk)
-  pub act_rows : length p.acts ≡ 3
-  pub small_fetched : Below 513 (row p.acts FETCHED)
-  pub small_discarded : Below 513 (row p.acts DISCARDED)
+  pub small_nexts : Below 4096 p.desk.next
+  pub small_helds : Below 512 p.desk.held
+  pub small_looks : Below (suc (length k.refs)) p.desk.look
+  pub long_acts : length p.acts ≡ 8
+  pub small_acts : All Small p.acts

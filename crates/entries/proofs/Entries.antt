@@ -1,4 +1,4 @@
--- One field of a ticket: its value is among those of its row, its refusal has a number, and a reader reads it so. Assumes nothing.
+-- One field of a ticket: its value is among those of its row, and a reader reads it so. Assumes nothing.
 use mathlib.Core.Path.{◌≡◌, refl, subst}
 use mathlib.Core.Bool.{Bool, true, false, cond, ◌||◌}
 use mathlib.Core.List.{List}
@@ -7,24 +7,23 @@ use native.Mathlib.Omega.{arith}
 use lib.Dec.{ltb, leb}
 use lib.ListN.{drop}
 use borrow.Author.Tests.{ltb-false, leb-false, le-ltb}
+use Rattle.std.specs.Prelude.{Option, Some, None, Ok, Err}
+use Rattle.refusal.specs.Refusals.{number}
 use Rattle.bits.specs.Bits.{bits}
 use Rattle.bits.specs.Reading.{Reader, bind, ◌>>=◌, ◌>>◌, field, refuse_if}
 use Rattle.bits.specs.Fields.{field_at}
-use Rattle.bits.specs.declared.Field.{Field}
-use Rattle.bits.specs.declared.Field.TheVariants.{Value, Ended}
 use Rattle.bits.proofs.Fields.{field_then}
 use Rattle.bits.proofs.Logic.{by_test, or_false_left, or_false_right}
 use Rattle.entries.specs.Parts.{outside, entry_of, entry_at, entry_then}
 use Rattle.entries.specs.declared.Row.{Row}
-use Rattle.entries.specs.declared.Entry.TheVariants.{Value as Held, Refused}
 
 -- a value that is read is among those of its row
-pub entry-within : (t : List ℕ) (at : ℕ) (row : Row) {v : ℕ} → entry_at t at row ≡ Held v → (row.least ≤ v) × (v < row.limit)
+pub entry-within : (t : List ℕ) (at : ℕ) (row : Row) {v : ℕ} → entry_at t at row ≡ Ok v → (row.least ≤ v) × (v < row.limit)
 unfolding entry_at entry_of
 entry-within t at row {v} e = go (field_at t at row.width) e
   where
-    tested : (x : ℕ) (b : Bool) → outside row x ≡ b → cond b (Refused row.number) (Held x) ≡ Held v → (row.least ≤ v) × (v < row.limit)
-    tested x true q p = let z : ◌≡◌ {A = ℕ} 0 1 = cc in absurd (omega arith)
+    tested : (x : ℕ) (b : Bool) → outside row x ≡ b → cond b (Err row.refusal) (Ok x) ≡ Ok v → (row.least ≤ v) × (v < row.limit)
+    tested x true q p = absurd (let z : ◌≡◌ {A = ℕ} 0 1 = cc in omega arith)
     tested x false q p =
         let same : x ≡ v = cc in
         subst (λ (y : ℕ). (row.least ≤ y) × (y < row.limit)) same (
@@ -32,27 +31,14 @@ entry-within t at row {v} e = go (field_at t at row.width) e
           leb-false row.limit x (or_false_right (ltb x row.least) (leb row.limit x) q),
         )
 
-    go : (f : Field) → entry_of row f ≡ Held v → (row.least ≤ v) × (v < row.limit)
-    go (Value x) p = tested x (outside row x) refl p
-    go Ended p = let z : ◌≡◌ {A = ℕ} 0 1 = cc in absurd (omega arith)
-
--- No refusal has the number 0.
-pub entry_numbered : (t : List ℕ) (at : ℕ) (row : Row) {n : ℕ} → 1 ≤ row.number → entry_at t at row ≡ Refused n → 1 ≤ n
-unfolding entry_at entry_of
-entry_numbered t at row {n} h e = go (field_at t at row.width) e
-  where
-    tested : (v : ℕ) (b : Bool) → cond b (Refused row.number) (Held v) ≡ Refused n → 1 ≤ n
-    tested v true p = let same : row.number ≡ n = cc in omega (arith, same, h)
-    tested v false p = let z : ◌≡◌ {A = ℕ} 0 1 = cc in absurd (omega arith)
-
-    go : (f : Field) → entry_of row f ≡ Refused n → 1 ≤ n
-    go (Value v) p = tested v (outside row v) p
-    go Ended p = let same : ◌≡◌ {A = ℕ} 1 n = cc in omega (arith, same)
+    go : (f : Option ℕ) → entry_of row f ≡ Ok v → (row.least ≤ v) × (v < row.limit)
+    go (Some x) p = tested x (outside row x) refl p
+    go None p = absurd (let z : ◌≡◌ {A = ℕ} 0 1 = cc in omega arith)
 
 -- A field, and then the test of its row, as a reader reads them.
 pub entry_reads : {A : Type 0} (t : List ℕ) (at : ℕ) (row : Row) (test : ℕ → Bool) (more : ℕ → Reader A) → 0 < row.width
     → ((v : ℕ) → test v ≡ outside row v)
-    → (field 1 row.width >>= λ v. refuse_if row.number (test v) >> more v) (drop at (bits t))
+    → (field 1 row.width >>= λ v. refuse_if (number row.refusal) (test v) >> more v) (drop at (bits t))
     ≡ entry_then (drop (at + row.width) (bits t)) more (entry_at t at row)
 unfolding ◌>>◌ bind refuse_if entry_at entry_of entry_then
 entry_reads t at row test more p same =

@@ -1,88 +1,84 @@
 // The parts of a ticket: a count and then that many entries.
 #![tactic(auto)]
 
-ghost use Rattle.std.specs.Prelude.{◌≡◌, ◌+◌, ◌^◌, ◌≤◌, ◌<◌, length};
-ghost use Rattle.entries.specs.Parts.{entry_at, of_row, fill, part_at};
+ghost use Rattle.std.specs.Prelude.{◌≡◌, ℕ, ◌+◌, ◌^◌, ◌≤◌, ◌<◌, length};
+ghost use Rattle.entries.specs.Parts.{entry_at, Entries, of_row, fill, part_at};
 
-use bits::Field;
 use bits::read::field;
+use refusal::Refusal;
 
 // A row of document 01's table of ticket fields, or a field of document 02's L9: its bits, its values, from `least` on and below `limit`, and the
-// number that refuses others.
+// refusal of others.
 #[derive(Clone, Copy)]
 pub struct Row {
     pub width: usize,
     pub least: usize,
     pub limit: usize,
-    pub number: usize,
+    pub refusal: Refusal,
 }
 
-// What reading one field gives: its value, or the number that refuses it.
-#[derive(Clone, Copy)]
-pub enum Entry {
-    Value(usize),
-    Refused(usize),
-}
-
-// What reading a part of a ticket gives. A part is a count and then that many entries. 0, the count and the bit after the part; or the number
-// that refuses it. Of the blocks carried in on all disks, the count is that of the disks.
+// A part of a ticket that was read: its count, and the bit after it.
 #[derive(Clone, Copy)]
 pub struct Part {
-    pub number: usize,
     pub count: usize,
     pub next: usize,
 }
 
 // The field at the bit `at`, tested as its row says.
-pub fn checked(t: &[u8], at: usize, row: Row) -> Entry
+pub fn checked(t: &[u8], at: usize, row: Row) -> Result<usize, Refusal>
     requires width_bound { row.width ≤ 12 }
     requires at_bound { at < 2 ^ 32 }
     ensures { result ≡ entry_at t.now at row }
 {
-    let Field::Value(v) = field(t, at, row.width) else {
-        return Entry::Refused(1);
+    let Some(v) = field(t, at, row.width) else {
+        return Err(Refusal::TicketEnds);
     };
     if v < row.least || row.limit <= v {
-        return Entry::Refused(row.number);
+        return Err(row.refusal);
     }
-    Entry::Value(v)
+    Ok(v)
 }
 
-// Entries, read from the bit `at` on into a table, up to the first that is refused.
-fn fill_table(t: &[u8], at: usize, row: Row, count: usize, table: &mut [u16]) -> Part
-    requires width_bound { row.width ≤ 12 }
-    requires limit_bound { row.limit ≤ 65536 }
+// Entries, written from the place `from` on, up to the first that is refused: `entry` reads the one at a bit, given 1 above the value before it.
+pub fn fill<F: Fn(usize, usize) -> Result<usize, Refusal>>(
+    entry: F,
+    width: usize,
+    at: usize,
+    from: usize,
+    count: usize,
+    table: &mut [u16],
+) -> Result<Part, Refusal>
+    ghost e: { Entries }
+    requires width_of { width ≡ e.width }
+    requires width_bound { width ≤ 12 }
     requires at_bound { at < 65536 }
     requires count_bound { count ≤ 2048 }
-    requires count_in_bounds { count ≤ length table.old }
-    ensures value { result ≡ (fill (of_row t.now row) count at 0 0 count table.old).part }
-    ensures table_after { table.new ≡ (fill (of_row t.now row) count at 0 0 count table.old).table }
+    requires count_in_bounds { from + count ≤ length table.old }
+    requires called { (b least : ℕ) → b < 2 ^ 32 → least ≤ 65536 → F.pre entry b least }
+    requires gives { (b least : ℕ) (r : _) → b < 2 ^ 32 → least ≤ 65536 → F.post entry b least r → r ≡ e.entry b least }
+    requires below { (b least v : ℕ) → e.entry b least ≡ Ok v → v < 65536 }
+    ensures value { result ≡ (fill e count at 0 from count table.old).part }
+    ensures table_after { table.new ≡ (fill e count at 0 from count table.old).table }
 {
     let mut next = at;
-    let mut i = 0;
-    while i < count {
-        match checked(t, next, row) {
-            Entry::Value(v) => table[i] = v as u16,
-            Entry::Refused(number) => {
-                return Part {
-                    number,
-                    count: 0,
-                    next: 0,
-                };
-            }
-        }
-        next += row.width;
-        i += 1;
+    let mut least = 0;
+    for i in from..from + count {
+        let v = entry(next, least)?;
+        table[i] = v as u16;
+        least = v + 1;
+        next += width;
     }
-    Part {
-        number: 0,
-        count,
-        next,
-    }
+    Ok(Part { count, next })
 }
 
 // A count and then as many entries, read from the bit `at` on.
-pub fn table_part(t: &[u8], at: usize, counts: Row, entries: Row, table: &mut [u16]) -> Part
+pub fn table_part(
+    t: &[u8],
+    at: usize,
+    counts: Row,
+    entries: Row,
+    table: &mut [u16],
+) -> Result<Part, Refusal>
     requires width_bound { counts.width ≤ 12 }
     requires width_bound_2 { entries.width ≤ 12 }
     requires limit_bound { entries.limit ≤ 65536 }
@@ -92,12 +88,13 @@ pub fn table_part(t: &[u8], at: usize, counts: Row, entries: Row, table: &mut [u
     ensures value { result ≡ (part_at t.now at counts (of_row t.now entries) 0 table.old).part }
     ensures table_after { table.new ≡ (part_at t.now at counts (of_row t.now entries) 0 table.old).table }
 {
-    match checked(t, at, counts) {
-        Entry::Value(count) => fill_table(t, at + counts.width, entries, count, table),
-        Entry::Refused(number) => Part {
-            number,
-            count: 0,
-            next: 0,
-        },
-    }
+    let count = checked(t, at, counts)?;
+    fill(
+        |at, _| checked(t, at, entries),
+        entries.width,
+        at + counts.width,
+        0,
+        count,
+        table,
+    )
 }

@@ -1,9 +1,10 @@
 -- What planning of a job gives, from what the parts of the call give. Assumes nothing.
-use mathlib.Core.Path.{◌≡◌, refl, sym, ap, ◌∙◌}
+use mathlib.Core.Path.{◌≡◌, refl, sym, ap, ◌∙◌, subst}
 use mathlib.Core.List.{List}
 use Prim.Native.Nat.{ℕ, ◌+◌, ◌/◌, ◌^◌, ◌≤◌, ◌<◌}
 use native.Mathlib.Omega.{arith}
 use lib.Dec.{ltb}
+use Rattle.std.specs.Prelude.{Result, Ok, Err}
 use lib.ListN.{length, take}
 use borrow.Author.Tests.{ltb-false}
 use Rattle.bits.specs.Bits.{bytes, pack, over, bytes_for}
@@ -15,7 +16,7 @@ use Rattle.model.specs.Job.{Job, Sound}
 use Rattle.model.specs.Playing.{Schedule, charged, fetches}
 use Rattle.model.specs.Plans.{each, schedule_of}
 use Rattle.model.specs.Sheet.{sheet_bits, sheet_of}
-use Rattle.model.specs.Calls.{counts_of, planned_for, with_rooms, planned_of, short_after, sparing_after, written, returned}
+use Rattle.model.specs.Calls.{which_for, counts_of, planned_for, with_rooms, planned_of, short_after, sparing_after, written, returned}
 use Rattle.model.specs.Calls.{Planned as PlanGiven}
 use Rattle.model.proofs.Charged.{schedule_charged}
 use Rattle.model.proofs.Stop.{sound_job}
@@ -27,50 +28,53 @@ use Rattle.driving.specs.Driving.{totals_of}
 use Rattle.driving.specs.declared.Totals.{Totals}
 use Rattle.planning.specs.Planning.{plans_of}
 use Rattle.planning.specs.declared.Plans.{Plans}
-use Rattle.returning.specs.Returning.{planned_as, room_number}
+use Rattle.refusal.specs.Refusals.{refusal_of}
+use Rattle.refusal.specs.declared.Refusal.{Refusal}
+use Rattle.returning.specs.Returning.{which_as, mark_of, of_which, planned_as}
 use Rattle.returning.specs.declared.Planned.{Planned}
-use Rattle.handing.specs.Handing.{outcome_of}
+use Rattle.returning.proofs.TwoSheets.{mark-chosen, two_marked}
+use Rattle.handing.specs.Handing.{total_counts, both_fit, outcome_of}
 
 -- What a planning call returns, and the two buffers after it.
-abbrev pub Gives : Answer PlanGiven → List ℕ → List ℕ → Planned → List ℕ → List ℕ → Type 0
+abbrev pub Gives : Answer PlanGiven → List ℕ → List ℕ → Result Planned Refusal → List ℕ → List ℕ → Type 0
 Gives a short sparing r short' sparing' = (r ≡ planned_as (returned a)) × (short' ≡ short_after a short) × (sparing' ≡ sparing_after a sparing)
 
-pub gives_refused : (a : Answer PlanGiven) (short sparing : List ℕ) (r : Planned) (n : ℕ) → a ≡ refused n → r ≡ planned_as (returned (refused n))
+pub gives_refused : (a : Answer PlanGiven) (short sparing : List ℕ) (r : Result Planned Refusal) (n : ℕ) → a ≡ refused n → r ≡ Err (refusal_of n)
     → Gives a short sparing r short sparing
-unfolding written
-gives_refused a short sparing r n e q = (
-  q ∙ ap (λ (x : Answer PlanGiven). planned_as (returned x)) (sym e),
-  ap (λ (x : Answer PlanGiven). short_after x short) (sym e),
-  ap (λ (x : Answer PlanGiven). sparing_after x sparing) (sym e),
-)
+unfolding planned_as returned written
+gives_refused a short sparing r n e q = subst (λ (x : Answer PlanGiven). Gives x short sparing r short sparing) (sym e) (q, refl, refl)
 
-gives_given : (a : Answer PlanGiven) (short sparing : List ℕ) (r : Planned) (short' sparing' : List ℕ) (p : PlanGiven) → a ≡ given p
-    → r ≡ planned_as (returned (given p)) → short' ≡ over p.short_sheet short → sparing' ≡ over p.sparing_sheet sparing → Gives a short sparing r short' sparing'
-unfolding written
-gives_given a short sparing r short' sparing' p e q f g = (
-  q ∙ ap (λ (x : Answer PlanGiven). planned_as (returned x)) (sym e),
-  f ∙ ap (λ (x : Answer PlanGiven). short_after x short) (sym e),
-  g ∙ ap (λ (x : Answer PlanGiven). sparing_after x sparing) (sym e),
-)
+-- What two plans give, by which of their sheets is handed back.
+pub outcome_is : (a : Totals) (m : ℕ) (b : Totals) (n : ℕ)
+    → outcome_of a m b n ≡ record {
+      mark = mark_of (which_as (which_for a.rounds b.rounds));
+      length = of_which (which_as (which_for a.rounds b.rounds)) m n;
+      short = total_counts a;
+      sparing = total_counts b;
+    }
+unfolding outcome_of
+outcome_is a m b n = rw (mark-chosen a.rounds b.rounds, two_marked {A = ℕ} a.rounds b.rounds m n) refl
 
--- Rooms that are too small for a plan's sheets, of m and n bytes, and rooms that are not.
-module _ (m a n b number : ℕ) (p : PlanGiven) (long₁ : m ≡ length p.short_sheet) (long₂ : n ≡ length p.sparing_sheet) (e : number ≡ room_number m a n b) where
-  no_room : (number ≡ 0 → ⊥) → with_rooms a b p ≡ refused number
-  unfolding room_number with_rooms
-  no_room f =
-      rw (← long₁, ← long₂)
-      (by_test (ltb a m)
-      (λ x. rw (x, e) (rw x refl))
-      (λ x. by_test (ltb b n) (λ y. rw (x, y, e) (rw (x, y) refl)) (λ y. absurd (f (e ∙ rw (x, y) refl)))))
+-- Rooms that are too small for a plan's sheets, and rooms that are not.
+module _ (a b : ℕ) (p : PlanGiven) where
+  abbrev fit : Result (Unit {0}) Refusal
+  fit = both_fit (length p.short_sheet) a (length p.sparing_sheet) b
 
-  both_fit : number ≡ 0 → (with_rooms a b p ≡ given p) × (m ≤ a) × (n ≤ b)
-  unfolding room_number with_rooms
-  both_fit z =
-      by_test (ltb a m)
-      (λ x. let k : 17 ≡ 0 = sym (rw x refl) ∙ sym e ∙ z in absurd (omega (arith, k)))
-      (λ x. by_test (ltb b n)
-      (λ y. let k : 18 ≡ 0 = sym (rw (x, y) refl) ∙ sym e ∙ z in absurd (omega (arith, k)))
-      (λ y. (rw (← long₁, ← long₂, x, y) refl, ltb-false a m x, ltb-false b n y)))
+  no_room : (refusal : Refusal) → fit ≡ Err refusal → (n : ℕ) × (with_rooms a b p ≡ refused n) × (refusal ≡ refusal_of n)
+  unfolding with_rooms refusal_of
+  no_room refusal e =
+      by_test (ltb a (length p.short_sheet))
+      (λ x. (17, rw x refl, let k = rw x at e in cc))
+      (λ x. by_test (ltb b (length p.sparing_sheet)) (λ y. (18, rw (x, y) refl, let k = rw (x, y) at e in cc)) (λ y. (let k = rw (x, y) at e in cc)))
+
+  room : fit ≡ Ok tt → (with_rooms a b p ≡ given p) × (length p.short_sheet ≤ a) × (length p.sparing_sheet ≤ b)
+  unfolding with_rooms
+  room e =
+      by_test (ltb a (length p.short_sheet))
+      (λ x. (let k = rw x at e in cc))
+      (λ x. by_test (ltb b (length p.sparing_sheet))
+      (λ y. (let k = rw (x, y) at e in cc))
+      (λ y. (rw (x, y) refl, ltb-false a (length p.short_sheet) x, ltb-false b (length p.sparing_sheet) y)))
 
 -- The plans of a sound job.
 module _ (j : Job) (sound : Sound j) where
@@ -149,17 +153,21 @@ module _ (j : Job) (sound : Sound j) where
     both_plans = planned_of j (the_schedule Short) (the_schedule Sparing)
 
     -- what planning gives for two rooms
-    module _ (a b x y number : ℕ) (ex : x ≡ m) (ey : y ≡ n) (e : number ≡ room_number x a y b) where
-      number_for : number ≡ room_number m a n b
-      number_for = e ∙ (λ i. room_number (ex i) a (ey i) b)
+    module _ (a b : ℕ) where
+      fit_is : both_fit m a n b ≡ both_fit (length (sheet_of (the_schedule Short))) a (length (sheet_of (the_schedule Sparing))) b
+      fit_is = λ i. both_fit (m_is i) a (n_is i) b
 
-      pub job_refused : (number ≡ 0 → ⊥) → planned_for a b (given j) ≡ refused number
+      pub job_refused : (refusal : Refusal) → both_fit m a n b ≡ Err refusal → (k : ℕ) × (planned_for a b (given j) ≡ refused k) × (refusal ≡ refusal_of k)
       unfolding planned_for planned_of
-      job_refused f = no_room m a n b number both_plans m_is n_is number_for f
+      job_refused refusal e = no_room a b both_plans refusal (sym fit_is ∙ e)
 
-      pub job_given : number ≡ 0 → (planned_for a b (given j) ≡ given both_plans) × (m ≤ a) × (n ≤ b)
+      pub job_given : both_fit m a n b ≡ Ok tt → (planned_for a b (given j) ≡ given both_plans) × (m ≤ a) × (n ≤ b)
       unfolding planned_for planned_of
-      job_given z = both_fit m a n b number both_plans m_is n_is number_for z
+      job_given e =
+          let g = room a b both_plans (sym fit_is ∙ e) in
+          let x = m_is in
+          let y = n_is in
+          (g.0, omega (arith, x, g), omega (arith, y, g))
 
     -- what `hand_out` asks, and what it then gives
     module _ {first second : List ℕ} (e₁ : first ≡ bytes 40968 (sheet_bits (the_schedule Short))) (e₂ : second ≡ bytes 40968 (sheet_bits (the_schedule Sparing))) where
@@ -172,10 +180,11 @@ module _ (j : Job) (sound : Sound j) where
 
       pub hand_gives : (a : Answer PlanGiven) (short sparing : List ℕ) {r : Planned} {short' sparing' : List ℕ} → a ≡ given both_plans
           → (r ≡ outcome_of p.short m p.sparing n) × (short' ≡ over (take m first) short) × (sparing' ≡ over (take n second) sparing)
-          → Gives a short sparing r short' sparing'
-      unfolding outcome_of planned_as returned planned_of counts_of
-      hand_gives a short sparing e h =
-          gives_given a short sparing _ _ _ both_plans e
-          (h.0 ∙ (λ i. outcome_of ((short_totals ∙ totals_charged Short) i) (m_is i) ((sparing_totals ∙ totals_charged Sparing) i) (n_is i)))
-          (copied Short p.short short_totals first short _ e₁ h.1)
-          (copied Sparing p.sparing sparing_totals second sparing _ e₂ h.2)
+          → Gives a short sparing (Ok r) short' sparing'
+      unfolding outcome_of planned_as returned planned_of counts_of written
+      hand_gives a short sparing {r} {short'} {sparing'} e h =
+          subst (λ (x : Answer PlanGiven). Gives x short sparing (Ok r) short' sparing') (sym e) (
+            ap Ok h.0 ∙ (λ i. Ok (outcome_of ((short_totals ∙ totals_charged Short) i) (m_is i) ((sparing_totals ∙ totals_charged Sparing) i) (n_is i))),
+            copied Short p.short short_totals first short _ e₁ h.1,
+            copied Sparing p.sparing sparing_totals second sparing _ e₂ h.2,
+          )

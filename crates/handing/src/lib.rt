@@ -7,36 +7,25 @@ ghost use Rattle.bits.specs.Reading.{given};
 ghost use Rattle.job.specs.Meaning.{job_of, Fits};
 ghost use Rattle.model.specs.Calls.{planned_for, short_after, sparing_after, returned};
 ghost use Rattle.returning.specs.Returning.{planned_as};
-ghost use Rattle.handing.specs.Handing.{total_counts, outcome_of};
+ghost use Rattle.handing.specs.Handing.{total_counts, both_fit, outcome_of};
 
-use driving::Totals;
+use driving::{Output, Totals};
 use job::Job;
 use planning::Plans;
-use returning::{Counts, Planned};
+use playing::Counts;
+use refusal::Refusal;
+use returning::Planned;
 
 // The rounds and fetches of a plan.
 pub fn counted(plan: Totals) -> Counts
     ensures { result ≡ total_counts plan }
 {
-    let fetches = plan.fetches;
-    Counts {
-        rounds: plan.rounds,
+    let Totals {
+        rounds,
         fetches,
-    }
-}
-
-// What two plans with sheets of m and n bytes give.
-fn outcome(short: Totals, m: usize, sparing: Totals, n: usize) -> Planned
-    ensures { result ≡ outcome_of short m sparing n }
-{
-    let which = returning::which_for(short.rounds, sparing.rounds);
-    Planned {
-        number: 0,
-        mark: returning::mark_of(which),
-        length: returning::of_which(which, m, n),
-        short: counted(short),
-        sparing: counted(sparing),
-    }
+        ..
+    } = plan;
+    Counts { rounds, fetches }
 }
 
 // How many bytes the sheet of a plan has.
@@ -47,7 +36,17 @@ pub fn sheet_length(plan: Totals) -> usize
     (plan.bits + 7) / 8
 }
 
-// Both sheets copied from where they were made to buffers in which they fit.
+// Whether both sheets fit buffers of so many bytes: 17 where the short one does not, and else 18 where the sparing one does not.
+pub fn both_fit(plans: Plans, short: usize, sparing: usize) -> Result<(), Refusal>
+    requires { (plans.short.bits < 2 ^ 32) × (plans.sparing.bits < 2 ^ 32) }
+    ensures { result ≡ both_fit (bytes_for plans.short.bits) short (bytes_for plans.sparing.bits) sparing }
+{
+    returning::fits(sheet_length(plans.short), short, Refusal::ShortRoom)?;
+    returning::fits(sheet_length(plans.sparing), sparing, Refusal::SparingRoom)
+}
+
+// Both sheets copied from where they were made to buffers in which they fit, and what the two plans give.
+#[tactic(auto, using(crate::proofs::Rooms::outcome_is))]
 pub fn hand_out(
     plans: Plans,
     first: &[u8],
@@ -62,17 +61,21 @@ pub fn hand_out(
         × (short.new ≡ over (take m first.now) short.old)
         × (sparing.new ≡ over (take n second.now) sparing.old) }
 {
-    let a = plans.short;
-    let b = plans.sparing;
-    let m = sheet_length(a);
-    let n = sheet_length(b);
+    let m = sheet_length(plans.short);
+    let n = sheet_length(plans.sparing);
     bits::copy_front(first, m, short);
     bits::copy_front(second, n, sparing);
-    outcome(a, m, b, n)
+    let which = returning::which_for(plans.short.rounds, plans.sparing.rounds);
+    Planned {
+        mark: which.into(),
+        length: which.of(m, n),
+        short: counted(plans.short),
+        sparing: counted(plans.sparing),
+    }
 }
 
 // Planning of a job: both plans are made in scratch sheets, without their reasons, and copied where both fit.
-pub fn plan_job(job: Job, short: &mut [u8], sparing: &mut [u8]) -> Planned
+pub fn plan_job(job: Job, short: &mut [u8], sparing: &mut [u8]) -> Result<Planned, Refusal>
     requires { Fits job }
     ensures { let a = planned_for (length short.old) (length sparing.old) (given (job_of job)) in
         (result ≡ planned_as (returned a))
@@ -81,17 +84,15 @@ pub fn plan_job(job: Job, short: &mut [u8], sparing: &mut [u8]) -> Planned
 {
     let mut first = [0u8; 40968];
     let mut second = [0u8; 40968];
-    let mut none = [0u8; 0];
-    let mut neither = [0u8; 0];
-    let plans = planning::run(job, &mut first, &mut second, &mut none, &mut neither);
-    let number = returning::room_number(
-        sheet_length(plans.short),
-        short.len(),
-        sheet_length(plans.sparing),
-        sparing.len(),
-    );
-    if number != 0 {
-        return returning::refusal(number);
-    }
-    hand_out(plans, &first, &second, short, sparing)
+    let mut a = Output {
+        sheet: &mut first,
+        reasons: &mut [],
+    };
+    let mut b = Output {
+        sheet: &mut second,
+        reasons: &mut [],
+    };
+    let plans = planning::run(job, &mut a, &mut b);
+    both_fit(plans, short.len(), sparing.len())?;
+    Ok(hand_out(plans, a.sheet, b.sheet, short, sparing))
 }

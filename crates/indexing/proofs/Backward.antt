@@ -1,5 +1,5 @@
--- The backward pass over a list of keys, the references of `index` and their disks in `chain`: what the tables hold while the places from p on
--- are done. Assumes nothing.
+-- The backward pass over a list of keys, the references of `open` or their disks: what the tables hold while the places from p on are done. Assumes
+-- nothing.
 use mathlib.Core.Path.{◌≡◌, refl, sym, ap, ap₂, ◌∙◌}
 use mathlib.Core.List.{List, [], ◌∷◌, ◌++◌}
 use Prim.Native.Nat.{ℕ, zero, suc, ◌-◌, ◌≤◌, ◌<◌}
@@ -64,10 +64,10 @@ done_start l n m k table e f =
     }
 
 -- one place more: its value b was last seen at the place that the table has
-pub done_back : (l : List ℕ) (n p q w b : ℕ) (first again table : List ℕ) → Done l n q first again table → q ≡ suc p → w ≡ p
-    → get_or l p 0 ≡ b → b < n → Done l n p (set first b w) (set again p (get_or first b 0)) table
+pub done_back : {l : List ℕ} {n p q b : ℕ} {first again table first' again' : List ℕ} → Done l n q first again table → q ≡ suc p → get_or l p 0 ≡ b → b < n
+    → first' ≡ set first b p → again' ≡ set again p (get_or first b 0) → Done l n p first' again' table
 unfolding firsts
-done_back l n p q w b first again table h e same key small =
+done_back {l} {n} {p} {q} {b} {first} {again} {table} h e key small first_after again_after =
     let most = h.within in
     let here : p < length l = omega arith in
     let f : first ≡ firsts l n (suc p) = h.first_is ∙ ap (firsts l n) e in
@@ -76,11 +76,14 @@ done_back l n p q w b first again table h e same key small =
     record {
       within = omega arith;
       first_is =
-          ap₂ (λ (t : List ℕ) (k : ℕ). set t b k) f same
+          first_after ∙ ap (λ (t : List ℕ). set t b p) f
           ∙ set-each (distance l (suc p)) (distance l p) n b p small (distance_here l p b key here)
           (λ i apart. distance_on l p i (λ r. apart (sym r ∙ key)) here);
-      again_is = ap₂ (λ (t : List ℕ) (k : ℕ). set t p k) a v ∙ done_step l table p here;
+      again_is = again_after ∙ ap₂ (λ (t : List ℕ) (k : ℕ). set t p k) a v ∙ done_step l table p here;
     }
 
-pub done_end : (l : List ℕ) (n : ℕ) (first again table : List ℕ) → Done l n 0 first again table → (first ≡ firsts l n 0) × (again ≡ agains l table)
-done_end l n first again table h = (h.first_is, h.again_is ∙ done_all l table)
+pub done_first : {l : List ℕ} {n p : ℕ} {first again table : List ℕ} → Done l n p first again table → p ≡ 0 → first ≡ firsts l n 0
+done_first {l} {n} h none = h.first_is ∙ ap (firsts l n) none
+
+pub done_again : {l : List ℕ} {n p : ℕ} {first again table : List ℕ} → Done l n p first again table → p ≡ 0 → again ≡ agains l table
+done_again {l} {n} {p} {first} {again} {table} h none = h.again_is ∙ ap (λ (k : ℕ). done_from l k table) none ∙ done_all l table

@@ -15,6 +15,7 @@ pub fn read_front<R: Read>(reader: &mut R, buf: &mut [u8]) -> io::Result<usize>
     ensures all { IfOk result (λ n. n < length buf.new → IsAtEnd (R.remaining reader.new)) }
 {
     let mut n = 0;
+    // A `while`: a turn puts as many bytes as the reader gives, so no iterator counts them.
     while n < buf.len() {
         let got = reader.read(&mut buf[n..])?;
         if got == 0 {

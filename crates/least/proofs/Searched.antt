@@ -2,12 +2,14 @@
 use mathlib.Core.Path.{◌≡◌, refl, sym, ap, ◌∙◌}
 use mathlib.Core.Bool.{false, cond}
 use mathlib.Core.List.{List}
-use mathlib.Core.Option.{Option, none, some}
+use mathlib.Core.Option.{none, some}
+use mathlib.Core.Option.{Option as OptionGiven}
+use Rattle.std.specs.Prelude.{Option, None, Some, Result, Ok, Err}
 use Prim.Native.Nat.{ℕ, suc, ◌+◌, ◌-◌, ◌^◌, ◌≤◌, ◌<◌}
 use native.Mathlib.Omega.{arith}
 use lib.Dec.{ltb, leb}
-use lib.ListN.{length, take, drop, length-append, length-take, length-drop}
-use borrow.Author.Tests.{ltb-false, le-leb, lt-leb}
+use lib.ListN.{length, take}
+use borrow.Author.Tests.{le-leb, lt-leb}
 use Rattle.bits.specs.Bits.{bytes, over, bytes_for}
 use Rattle.bits.specs.Reading.{Answer, given, refused}
 use Rattle.bits.proofs.Logic.{by_test, and_true, and_false_left, and_false_right}
@@ -25,36 +27,28 @@ use Rattle.driving.specs.Driving.{totals_of}
 use Rattle.driving.specs.declared.Totals.{Totals}
 use Rattle.handing.specs.Handing.{total_counts}
 use Rattle.handing.proofs.Rooms.{totals_charged, sheet-bytes, bits-few, scratch_room, copied}
+use Rattle.refusal.specs.Refusals.{refusal_of}
+use Rattle.refusal.specs.declared.Refusal.{Refusal}
 use Rattle.returning.specs.Returning.{least_as}
 use Rattle.returning.specs.declared.LeastSlots.{LeastSlots}
-use Rattle.returning.specs.declared.SlotCount.TheVariants.{Slots}
 use Rattle.least.specs.Least.{lowest_count, tried_rounds, handed_for}
 use Rattle.least.proofs.Tried.{played_in, tried_within, tried_beyond}
 
 -- no more rounds are driven than there are references
 pub tried_few : (wanted count : ℕ) → tried_rounds wanted count ≤ count
-unfolding tried_rounds
 tried_few wanted count = omega arith
-
--- a sheet is copied where it fits, and the buffer is as long as it was
-pub handed-long : (m : ℕ) (sheet lent : List ℕ) {after : List ℕ} → after ≡ cond (ltb (length lent) m) lent (over (take m sheet) lent) → length after ≡ length lent
-unfolding over
-handed-long m sheet lent e =
-    ap length e
-    ∙ by_test (ltb (length lent) m)
-    (λ y. rw y refl)
-    (λ y. let fits = ltb-false (length lent) m y in
-    let a = length-append (take m sheet) (drop (length (take m sheet)) lent) in
-    let b = length-drop (length (take m sheet)) lent in
-    let c = length-take m sheet in
-    rw y (omega (arith, a, b, c, fits)))
 
 -- The count is still to be found from s on.
 abbrev pub ToFind : Job → ℕ → ℕ → ℕ → Type 0
 ToFind j d wanted s = least_slots j d wanted ≡ first_of (within j d wanted) s (65 - s)
 
+-- A count that is given for a disk is some count.
+abbrev pub some_of : Result LeastSlots Refusal → Result (Option LeastSlots) Refusal
+some_of (Ok least) = Ok (Some least)
+some_of (Err refusal) = Err refusal
+
 -- What is returned, and the buffer after and before the call.
-abbrev pub Answered : Job → ℕ → ℕ → LeastSlots → List ℕ → List ℕ → Type 0
+abbrev pub Answered : Job → ℕ → ℕ → Result (Option LeastSlots) Refusal → List ℕ → List ℕ → Type 0
 Answered j d wanted r after lent =
     let a = with_sheet (length lent) d j (least_slots j d wanted) in
     (r ≡ least_as (returned_slots a)) × (after ≡ slots_after a lent)
@@ -64,19 +58,15 @@ module _ (j : Job) (sound : Sound j) (d wanted : ℕ) where
   unfolding within
   below_carried s l = and_false_left _ (lt-leb (length (carried_on j d)) s l)
 
-  pub search_from : (carried s : ℕ) → length (carried_on j d) ≡ carried → carried ≤ 64 → s ≡ lowest_count carried → (1 ≤ s) × (s ≤ 64) × (carried ≤ s) × ToFind j d wanted s
-  unfolding lowest_count least_slots
+  pub search_from : (carried s : ℕ) → length (carried_on j d) ≡ carried → carried ≤ 64 → s ≡ lowest_count carried → ToFind j d wanted s
+  unfolding least_slots
   search_from carried s e few q =
       let from : 1 ≤ s = omega (arith, q) in
       let all : 64 ≡ (s - 1) + (65 - s) = omega (arith, q, few) in
-      let at : 1 + (s - 1) ≡ s = omega (arith, from) in (
-        from,
-        omega (arith, q, few),
-        omega (arith, q),
-        ap (first_of (within j d wanted) 1) all
-            ∙ first_skip (within j d wanted) 1 (s - 1) (65 - s) (λ i l m. below_carried i (omega (arith, l, m, q, e)))
-            ∙ ap (λ (x : ℕ). first_of (within j d wanted) x (65 - s)) at,
-      )
+      let at : 1 + (s - 1) ≡ s = omega (arith, from) in
+      ap (first_of (within j d wanted) 1) all
+      ∙ first_skip (within j d wanted) 1 (s - 1) (65 - s) (λ i l m. below_carried i (omega (arith, l, m, q, e)))
+      ∙ ap (λ (x : ℕ). first_of (within j d wanted) x (65 - s)) at
 
   module _ (s : ℕ) (allowed : Allowed j d s) (find : ToFind j d wanted s) where
     abbrev k : Job
@@ -143,19 +133,19 @@ module _ (j : Job) (sound : Sound j) (d wanted : ℕ) where
         m_is : m ≡ length (sheet_of (schedule_of short k))
         m_is = sheet-bytes k k_sound Short plan plan_is
 
-        unfoldable answer : ℕ → Answer (Option SlotsFound)
+        unfoldable answer : ℕ → Answer (OptionGiven SlotsFound)
         answer room = cond (ltb room m) (refused 17) (given (some (found_with d j s)))
 
         answer_is : (room : ℕ) → with_sheet room d j (least_slots j d wanted) ≡ answer room
         unfolding with_sheet found_with answer
         answer_is room = ap (with_sheet room d j) found_is ∙ ap (λ (x : ℕ). cond (ltb room x) (refused 17) (given (some (found_with d j s)))) (sym m_is)
 
-        returned_is : (room : ℕ) → handed_for s plan m room ≡ least_as (returned_slots (answer room))
-        unfolding handed_for found_with least_as returned_slots short_counts counts_of answer
+        returned_is : (room : ℕ) → some_of (handed_for s plan m room) ≡ least_as (returned_slots (answer room))
+        unfolding found_with least_as returned_slots short_counts counts_of answer refusal_of
         returned_is room =
             by_test (ltb room m)
             (λ y. rw y refl)
-            (λ y. rw y (λ i. record { number = 0; slots = Slots s; length = m_is i; counts = total_counts ((plan_is ∙ totals_charged k k_sound Short) i) }))
+            (λ y. rw y (λ i. Ok (Some (record { slots = s; length = m_is i; counts = total_counts ((plan_is ∙ totals_charged k k_sound Short) i) }))))
 
         written_is : (lent : List ℕ) → cond (ltb (length lent) m) lent (over (take m sheet) lent) ≡ slots_after (answer (length lent)) lent
         unfolding found_with written answer
@@ -164,18 +154,19 @@ module _ (j : Job) (sound : Sound j) (d wanted : ℕ) where
             (λ y. rw y refl)
             (λ y. rw y (copied k k_sound Short plan plan_is sheet lent _ sheet_is refl))
 
-        pub hand_gives : (lent : List ℕ) {lent' : List ℕ} {r : LeastSlots} → (r ≡ handed_for s plan m (length lent)) × (lent' ≡ cond (ltb (length lent) m) lent (over (take m sheet) lent))
-            → Answered j d wanted r lent' lent
-        hand_gives lent h =
+        pub hand_gives : (lent : List ℕ) {lent' : List ℕ} {r : Result LeastSlots Refusal} {given' : Result (Option LeastSlots) Refusal}
+            → (r ≡ handed_for s plan m (length lent)) × (lent' ≡ cond (ltb (length lent) m) lent (over (take m sheet) lent)) → given' ≡ some_of r
+            → Answered j d wanted given' lent' lent
+        hand_gives lent h g =
             let e = sym (answer_is (length lent)) in (
-              h.0 ∙ returned_is (length lent) ∙ ap (λ (x : Answer (Option SlotsFound)). least_as (returned_slots x)) e,
-              h.1 ∙ written_is lent ∙ ap (λ (x : Answer (Option SlotsFound)). slots_after x lent) e,
+              g ∙ ap some_of h.0 ∙ returned_is (length lent) ∙ ap (λ (x : Answer (OptionGiven SlotsFound)). least_as (returned_slots x)) e,
+              h.1 ∙ written_is lent ∙ ap (λ (x : Answer (OptionGiven SlotsFound)). slots_after x lent) e,
             )
 
   -- Past 64 there is none.
-  pub search_ends : (s : ℕ) → s ≡ 65 → ToFind j d wanted s → (lent : List ℕ) {r : LeastSlots} → r ≡ least_as (returned_slots (given none)) → Answered j d wanted r lent lent
-  unfolding with_sheet first_of written over
-  search_ends s e find lent q =
-      let none_left : least_slots j d wanted ≡ none = find ∙ ap (λ (x : ℕ). first_of (within j d wanted) x (65 - x)) e in
+  pub search_ends : (s : ℕ) → 65 ≤ s → ToFind j d wanted s → (lent : List ℕ) → Answered j d wanted (Ok None) lent lent
+  unfolding with_sheet first_of written over least_as returned_slots
+  search_ends s most find lent =
+      let none_left : least_slots j d wanted ≡ none = find ∙ ap (first_of (within j d wanted) s) (let z : 65 - s ≡ 0 = omega (arith, most) in z) in
       let a = ap (with_sheet (length lent) d j) none_left in
-      (q ∙ ap (λ (x : Answer (Option SlotsFound)). least_as (returned_slots x)) (sym a), ap (λ (x : Answer (Option SlotsFound)). slots_after x lent) (sym a))
+      (sym (ap (λ (x : Answer (OptionGiven SlotsFound)). least_as (returned_slots x)) a), ap (λ (x : Answer (OptionGiven SlotsFound)). slots_after x lent) (sym a))

@@ -26,6 +26,8 @@ use Rattle.playing.specs.declared.Buffers.{Buffers}
 use Rattle.playing.proofs.Started.{counted}
 use Rattle.choosing.specs.declared.Rule.{Rule}
 use Rattle.choosing.specs.declared.Rule.TheVariants.{Short}
+use Rattle.lookup.specs.declared.Desk.{Desk}
+use Rattle.lookup.specs.declared.Steps.{Steps}
 use Rattle.opening.specs.Opening.{start_steps, start_desk}
 use Rattle.opening.proofs.Started.{refs_lent}
 use Rattle.driving.specs.Driving.{no_acts, driven_from, totals_of}
@@ -72,7 +74,6 @@ module _ (k : Job) (sound : Sound k) (wanted : ℕ) where
       whole (omega (arith, b, few, l)) refl
 
   tried : (n : ℕ) → n ≡ tried_rounds wanted (ref_count k) → Tried n
-  unfolding tried_rounds
   tried n e =
       by_test (ltb wanted (ref_count k))
       (λ y. let l = ltb-true wanted (ref_count k) y in subst Tried (let s : suc wanted ≡ n = omega (arith, e, l) in s) (tried_part l))
@@ -129,7 +130,7 @@ module _ (c : Stored) (fits : Fits c) (d : ℕ) (l : d < c.disks) where
     }
 
     -- What was opened for the job serves every count: neither the buffers nor the desk nor the steps depend on the slots.
-    module _ {b : Buffers} {desk steps : List (List ℕ)} (eb : b ≡ start_buffers c) (ed : desk ≡ start_desk c) (es : steps ≡ start_steps c)
+    module _ {b : Buffers} {desk : Desk} {steps : Steps} (eb : b ≡ start_buffers c) (ed : desk ≡ start_desk c) (es : steps ≡ start_steps c)
         {own : List ℕ} (eg : own ≡ c.slots) where
       abbrev slots : List ℕ
       slots = take c.disks (set own d s)

@@ -5,6 +5,8 @@ use mathlib.Core.Option.{Option, none, some}
 use Prim.Native.Nat.{ℕ, suc, ◌+◌, ◌-◌, ◌/◌, ◌%◌, ◌≤◌, ◌<◌}
 use native.Mathlib.Omega.{arith}
 use lib.Dec.{ltb}
+use Rattle.std.specs.Prelude.{Some, None}
+use Rattle.std.specs.Prelude.{Option as Shown}
 use lib.ListN.{length, replicate, length-append}
 use borrow.Author.Tests.{ltb-true, ltb-false}
 use Rattle.bits.proofs.Logic.{by_test}
@@ -15,7 +17,7 @@ use Rattle.model.specs.Page.{block_text, fetched_block, discarded_block, line_of
 use Rattle.model.proofs.Text.{decimal_one, decimal_more}
 use Rattle.model.proofs.Page.{SmallChoice, reason-letter}
 use Rattle.lines.specs.Lines.{column_of, block_column, line_bytes}
-use Rattle.lines.proofs.Laws.{column-space, column_ones, column-digit, no_block, some_block}
+use Rattle.lines.proofs.Laws.{column-space, column_ones, column-digit}
 
 -- a number of one digit, and of more
 right_one : (w n : ℕ) → n < 10 → right_in (suc w) (decimal n) ≡ replicate w 32 ++ (48 + n) ∷ []
@@ -91,22 +93,20 @@ four_columns n l =
     more_columns 3 n many (three_columns (n / 10) (omega arith))
     ∙ (λ i. hundreds_thousands n many i ∷ tens_hundreds n many i ∷ ones_tens n many i ∷ column_of n 1 ∷ []))
 
--- The number that stands for a block, or for none.
-abbrev pub block_number : Option ℕ → ℕ
-block_number none = 512
-block_number (some b) = b
+-- A block, or none, as a line's text takes it.
+abbrev pub block_as : Option ℕ → Shown ℕ
+block_as none = None
+block_as (some b) = Some b
 
 abbrev SmallBlock : Option ℕ → Type 0
 SmallBlock none = Unit {0}
 SmallBlock (some b) = b < 512
 
 block_columns : (b : Option ℕ) → SmallBlock b
-    → block_text b ≡ block_column (block_number b) 100 ∷ block_column (block_number b) 10 ∷ block_column (block_number b) 1 ∷ []
-unfolding block_text text each
-block_columns none l = (λ i. sym (no_block 512 100 refl) i ∷ sym (no_block 512 10 refl) i ∷ sym (no_block 512 1 refl) i ∷ [])
-block_columns (some b) l =
-    let n : b ≡ 512 → ⊥ = λ e. absurd (omega arith) in
-    three_columns b (omega arith) ∙ (λ i. sym (some_block b 100 n) i ∷ sym (some_block b 10 n) i ∷ sym (some_block b 1 n) i ∷ [])
+    → block_text b ≡ block_column (block_as b) 100 ∷ block_column (block_as b) 10 ∷ block_column (block_as b) 1 ∷ []
+unfolding block_text block_column text each
+block_columns none l = refl
+block_columns (some b) l = three_columns b (omega arith)
 
 fetched-small : (c : Choice) → SmallChoice c → SmallBlock (fetched_block c)
 fetched-small (into_empty u) l = l
@@ -124,7 +124,7 @@ discarded-small none_missing l = tt
 
 -- A line of the page, column by column.
 pub line_columns : (round disk : ℕ) (c : Choice) → round < 10000 → disk < 10 → SmallChoice c
-    → line_bytes round disk (block_number (fetched_block c)) (block_number (discarded_block c)) (reason c) ≡ line_of round disk c
+    → line_bytes round disk (block_as (fetched_block c)) (block_as (discarded_block c)) (reason c) ≡ line_of round disk c
 unfolding line_bytes line_of
 line_columns round disk c p q small =
     rw (

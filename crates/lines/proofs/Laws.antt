@@ -4,11 +4,12 @@ use mathlib.Core.Logic.{◌≢◌}
 use mathlib.Core.List.{List}
 use Prim.Native.Nat.{ℕ, ◌+◌, ◌/◌, ◌%◌, ◌≤◌, ◌<◌}
 use lib.Dec.{ltb}
+use Rattle.std.specs.Prelude.{Some, None}
 use borrow.Author.Tests.{lt-ltb, le-ltb, eq-eqb, ne_eqb}
 use Rattle.bits.specs.Fields.{field_at}
 use Rattle.bits.proofs.Logic.{and_true, and_false_left, and_false_right}
 use Rattle.lines.specs.declared.Place.{Place}
-use Rattle.lines.specs.Lines.{column_of, block_column, value_of, shown_at, place_after}
+use Rattle.lines.specs.Lines.{column_of, value_of, shown_at, place_after}
 
 -- a column: a space, or the digit
 pub column-space : (n unit : ℕ) → 1 < unit → n < unit → column_of n unit ≡ 32
@@ -23,28 +24,19 @@ pub column-digit : (n unit : ℕ) → unit ≤ n → column_of n unit ≡ 48 + n
 unfolding column_of
 column-digit n unit p = rw (and_false_right (ltb 1 unit) (le-ltb n unit p))
 
--- a column of no block, and of a block
-pub no_block : (b unit : ℕ) → b ≡ 512 → block_column b unit ≡ 45
-unfolding block_column
-no_block b unit e = rw (eq-eqb b 512 e)
-
-pub some_block : (b unit : ℕ) → b ≢ 512 → block_column b unit ≡ column_of b unit
-unfolding block_column
-some_block b unit n = rw (ne_eqb b 512 n)
-
 -- an action: idle, one that fetches, and one that also discards
 module _ (sheet : List ℕ) (at : ℕ) where
-  pub shown_idle : value_of (field_at sheet at 1) ≡ 0 → shown_at sheet at ≡ record { fetched = 512; discarded = 512; next = at + 1 }
+  pub shown_idle : value_of (field_at sheet at 1) ≡ 0 → shown_at sheet at ≡ record { fetched = None; discarded = None; next = at + 1 }
   unfolding shown_at
   shown_idle e = rw (eq-eqb _ 0 e)
 
   pub shown_fetch : value_of (field_at sheet at 1) ≢ 0 → value_of (field_at sheet (at + 10) 1) ≡ 0 → (x : ℕ) → x ≡ value_of (field_at sheet (at + 1) 9)
-      → shown_at sheet at ≡ record { fetched = x; discarded = 512; next = at + 11 }
+      → shown_at sheet at ≡ record { fetched = Some x; discarded = None; next = at + 11 }
   unfolding shown_at
   shown_fetch n e x p = rw (ne_eqb _ 0 n, eq-eqb _ 0 e, p)
 
   pub shown_replace : value_of (field_at sheet at 1) ≢ 0 → value_of (field_at sheet (at + 10) 1) ≢ 0 → (x z : ℕ) → x ≡ value_of (field_at sheet (at + 1) 9)
-      → z ≡ value_of (field_at sheet (at + 11) 9) → shown_at sheet at ≡ record { fetched = x; discarded = z; next = at + 20 }
+      → z ≡ value_of (field_at sheet (at + 11) 9) → shown_at sheet at ≡ record { fetched = Some x; discarded = Some z; next = at + 20 }
   unfolding shown_at
   shown_replace n m x z p q = rw (ne_eqb _ 0 n, ne_eqb _ 0 m, p, q)
 

@@ -3,6 +3,7 @@ use mathlib.Core.Path.{◌≡◌, refl, sym, ap, ◌∙◌}
 use mathlib.Core.List.{List, [], ◌∷◌, ◌++◌, append_assoc}
 use Prim.Native.Nat.{ℕ, ◌+◌, ◌*◌, ◌%◌, ◌≤◌, ◌<◌}
 use native.Mathlib.Omega.{arith}
+use Rattle.std.specs.Prelude.{None}
 use lib.ListN.{length, get_or, drop, length-append, length-drop}
 use lib.Seq.{drop-drop, drop-append_seam, get_or-drop}
 use borrow.Author.Tests.{le-leb}
@@ -18,7 +19,7 @@ use Rattle.lines.specs.declared.Shown.{Shown}
 use Rattle.lines.specs.declared.Place.{Place}
 use Rattle.lines.specs.Lines.{line_bytes, value_of, shown_at, line_at}
 use Rattle.lines.proofs.Laws.{shown_idle, shown_fetch, shown_replace}
-use Rattle.lines.proofs.Columns.{block_number, line_columns}
+use Rattle.lines.proofs.Columns.{block_as, line_columns}
 
 -- What stands at a bit of the sheet: a field there has the value of its bits, and what follows it stands after it.
 module _ (sheet : List ℕ) (at : ℕ) where
@@ -48,13 +49,13 @@ module _ (sheet : List ℕ) (at : ℕ) where
 
 -- The action that begins there is the choice's, with the bit after it.
 abbrev shown_of : Choice → ℕ → Shown
-shown_of c next = record { fetched = block_number (fetched_block c); discarded = block_number (discarded_block c); next = next }
+shown_of c next = record { fetched = block_as (fetched_block c); discarded = block_as (discarded_block c); next = next }
 
 not-zero : {n : ℕ} → n ≡ 1 → n ≡ 0 → ⊥
 not-zero e z = omega (arith, e, z)
 
 module _ (sheet : List ℕ) (at : ℕ) where
-  idle_shown : (rest : List ℕ) → drop at (bits sheet) ≡ 0 ∷ rest → shown_at sheet at ≡ record { fetched = 512; discarded = 512; next = at + 1 }
+  idle_shown : (rest : List ℕ) → drop at (bits sheet) ≡ 0 ∷ rest → shown_at sheet at ≡ record { fetched = None; discarded = None; next = at + 1 }
   idle_shown rest e = shown_idle sheet at (value_bit sheet at 0 rest e)
 
   pub choice_shown : (c : Choice) → SmallChoice c → (rest : List ℕ) → drop at (bits sheet) ≡ action_bits (action c) ++ rest

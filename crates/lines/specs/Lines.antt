@@ -1,8 +1,6 @@
 -- A line of a page as it is printed: column by column, from the bytes of a sheet and of its reasons. Assumes nothing.
-use Rattle.std.specs.Prelude.{cond, ◌&&◌, List, [], ◌∷◌, ℕ, ◌+◌, ◌/◌, ◌%◌, ltb, eqb, get_or}
+use Rattle.std.specs.Prelude.{cond, ◌&&◌, Option, Some, None, List, [], ◌∷◌, ℕ, ◌+◌, ◌/◌, ◌%◌, ltb, eqb, get_or}
 use Rattle.bits.specs.Fields.{field_at}
-use Rattle.bits.specs.declared.Field.{Field}
-use Rattle.bits.specs.declared.Field.TheVariants.{Value, Ended}
 use Rattle.model.specs.Page.{legend}
 use Rattle.lines.specs.declared.Shown.{Shown}
 use Rattle.lines.specs.declared.Place.{Place}
@@ -11,12 +9,13 @@ use Rattle.lines.specs.declared.Place.{Place}
 unfoldable pub column_of : ℕ → ℕ → ℕ
 column_of n unit = cond (ltb 1 unit && ltb n unit) 32 (48 + n / unit % 10)
 
--- and a column of a block, where 512 is no block.
-unfoldable pub block_column : ℕ → ℕ → ℕ
-block_column b unit = cond (eqb b 512) 45 (column_of b unit)
+-- and a column of a block, or of `---` where there is none.
+unfoldable pub block_column : Option ℕ → ℕ → ℕ
+block_column None unit = 45
+block_column (Some b) unit = column_of b unit
 
 -- A line: its round, its disk, the fetched and the discarded block, and the letter of its rule, with which the rule's line of the legend begins.
-unfoldable pub line_bytes : ℕ → ℕ → ℕ → ℕ → ℕ → List ℕ
+unfoldable pub line_bytes : ℕ → ℕ → Option ℕ → Option ℕ → ℕ → List ℕ
 line_bytes round disk fetched discarded rule =
     column_of round 1000 ∷ column_of round 100 ∷ column_of round 10 ∷ column_of round 1 ∷ 32 ∷ column_of disk 1 ∷ 32
     ∷ block_column fetched 100 ∷ block_column fetched 10 ∷ block_column fetched 1 ∷ 32
@@ -24,17 +23,17 @@ line_bytes round disk fetched discarded rule =
     ∷ get_or (get_or legend rule []) 0 0 ∷ 10 ∷ []
 
 -- A field's value, 0 where the bytes end inside it.
-abbrev pub value_of : Field → ℕ
-value_of (Value v) = v
-value_of Ended = 0
+abbrev pub value_of : Option ℕ → ℕ
+value_of (Some v) = v
+value_of None = 0
 
--- The action at the bit `at` of a sheet: the fetched and the discarded block, where 512 is no block, and the bit after it.
+-- The action at the bit `at` of a sheet: the blocks that it fetches and discards, if any, and the bit after it.
 unfoldable pub shown_at : List ℕ → ℕ → Shown
 shown_at sheet at =
-    cond (eqb (value_of (field_at sheet at 1)) 0) (record { fetched = 512; discarded = 512; next = at + 1 })
+    cond (eqb (value_of (field_at sheet at 1)) 0) (record { fetched = None; discarded = None; next = at + 1 })
     (cond (eqb (value_of (field_at sheet (at + 10) 1)) 0)
-    (record { fetched = value_of (field_at sheet (at + 1) 9); discarded = 512; next = at + 11 })
-    (record { fetched = value_of (field_at sheet (at + 1) 9); discarded = value_of (field_at sheet (at + 11) 9); next = at + 20 }))
+    (record { fetched = Some (value_of (field_at sheet (at + 1) 9)); discarded = None; next = at + 11 })
+    (record { fetched = Some (value_of (field_at sheet (at + 1) 9)); discarded = Some (value_of (field_at sheet (at + 11) 9)); next = at + 20 }))
 
 -- The place after a line's: the next disk's, or that of disk 0 in the next round.
 unfoldable pub place_after : Place → ℕ → ℕ → Place

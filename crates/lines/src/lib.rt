@@ -5,8 +5,6 @@ ghost use Rattle.std.specs.Prelude.{◌≡◌, ◌^◌, ◌≤◌, ◌<◌};
 ghost use Rattle.bits.specs.Fields.{field_at};
 ghost use Rattle.lines.specs.Lines.{column_of, block_column, line_bytes, value_of, shown_at, place_after};
 
-use bits::Field;
-
 // "Five legend lines of 16 columns", one for each rule, in the order of the reasons' numbers.
 pub const LEGEND: [[u8; 16]; 5] = [
     *b"E empty slot    ",
@@ -16,11 +14,11 @@ pub const LEGEND: [[u8; 16]; 5] = [
     *b"N none left     ",
 ];
 
-// What a sheet says of one action, and the bit after it. The number 512 stands for no block.
+// What a sheet says of one action: the blocks that it fetches and discards, if any, and the bit after it.
 #[derive(Clone, Copy)]
 pub struct Shown {
-    pub fetched: usize,
-    pub discarded: usize,
+    pub fetched: Option<usize>,
+    pub discarded: Option<usize>,
     pub next: usize,
 }
 
@@ -33,28 +31,53 @@ pub struct Place {
     pub disk: usize,
 }
 
+impl Place {
+    // The place of the next line, whose action begins at the bit `next`: the next disk's, or that of disk 0 in the next round.
+    #[tactic(auto, using(std::proofs::lemmas::Bool::Decides::nat_tests), unfolding(crate::specs::Lines::place_after))]
+    pub fn after(self, next: usize, disks: usize) -> Place
+        requires { (self.line < 2 ^ 31) × (self.round < 2 ^ 31) × (self.disk < 2 ^ 31) }
+        ensures { result ≡ place_after self next disks }
+    {
+        let line = self.line + 1;
+        if self.disk + 1 == disks {
+            return Place {
+                line,
+                at: next,
+                round: self.round + 1,
+                disk: 0,
+            };
+        }
+        Place {
+            line,
+            at: next,
+            disk: self.disk + 1,
+            ..self
+        }
+    }
+}
+
 // A column of a number that is right aligned: its digit of that unit, or a space before its digits.
+#[tactic(auto, using(std::proofs::lemmas::Bool::Decides::nat_tests), unfolding(crate::specs::Lines::column_of))]
 fn column(n: usize, unit: usize) -> u8
     requires { 1 ≤ unit }
     ensures { result ≡ column_of n unit }
 {
-    if 1 < unit {
-        if n < unit {
-            return b' ';
-        }
+    if 1 < unit && n < unit {
+        return b' ';
     }
     (48 + n / unit % 10) as u8
 }
 
 // A column of a block, or of `---` where there is none.
-fn block_column(block: usize, unit: usize) -> u8
+#[tactic(auto, unfolding(crate::specs::Lines::block_column))]
+fn block_column(block: Option<usize>, unit: usize) -> u8
     requires { 1 ≤ unit }
     ensures { result ≡ block_column block unit }
 {
-    if block == 512 {
-        return b'-';
+    match block {
+        None => b'-',
+        Some(b) => column(b, unit),
     }
-    column(block, unit)
 }
 
 // A line: round, disk, the fetched and the discarded block, and the letter of the rule.
@@ -90,57 +113,33 @@ fn value(sheet: &[u8], at: usize, width: usize) -> usize
     requires { (width ≤ 12) × (at < 2 ^ 32) }
     ensures { result ≡ value_of (field_at sheet.now at width) }
 {
-    let field = bits::read::field(sheet, at, width);
-    match field {
-        Field::Value(v) => v,
-        Field::Ended => 0,
-    }
+    bits::read::field(sheet, at, width).unwrap_or(0)
 }
 
 // The action at the bit `at`.
+#[tactic(auto, using(std::proofs::lemmas::Bool::Decides::nat_tests), unfolding(crate::specs::Lines::shown_at))]
 pub fn action_at(sheet: &[u8], at: usize) -> Shown
     requires { at < 2 ^ 31 }
     ensures { result ≡ shown_at sheet.now at }
 {
     if value(sheet, at, 1) == 0 {
         return Shown {
-            fetched: 512,
-            discarded: 512,
+            fetched: None,
+            discarded: None,
             next: at + 1,
         };
     }
-    let fetched = value(sheet, at + 1, 9);
+    let fetched = Some(value(sheet, at + 1, 9));
     if value(sheet, at + 10, 1) == 0 {
         return Shown {
             fetched,
-            discarded: 512,
+            discarded: None,
             next: at + 11,
         };
     }
     Shown {
         fetched,
-        discarded: value(sheet, at + 11, 9),
+        discarded: Some(value(sheet, at + 11, 9)),
         next: at + 20,
-    }
-}
-
-// The place of the next line, whose action begins at the bit `next`: the next disk's, or that of disk 0 in the next round.
-pub fn place_after(place: Place, next: usize, disks: usize) -> Place
-    requires { (place.line < 2 ^ 31) × (place.round < 2 ^ 31) × (place.disk < 2 ^ 31) }
-    ensures { result ≡ place_after place next disks }
-{
-    if place.disk + 1 == disks {
-        return Place {
-            line: place.line + 1,
-            at: next,
-            round: place.round + 1,
-            disk: 0,
-        };
-    }
-    Place {
-        line: place.line + 1,
-        at: next,
-        round: place.round,
-        disk: place.disk + 1,
     }
 }

@@ -1,5 +1,7 @@
 -- The line of references block by block, and what is left in the buffer of `passes`: what is printed for its input. Assumes nothing.
 use mathlib.Core.Path.{◌≡◌, refl, sym, ap, ◌∙◌}
+use Rattle.std.proofs.Common.{Ok, Err}
+use mathlib.Core.Bool.{true}
 use mathlib.Core.Logic.{◌⊎◌, inl, inr}
 use mathlib.Core.List.{List, [], ◌∷◌, ◌++◌, append_assoc}
 use Prim.Native.Nat.{ℕ, zero, suc, ◌+◌, ◌-◌, ◌≤◌, ◌<◌}
@@ -12,16 +14,16 @@ use borrow.Author.Tests.{le-ltb, ltb-false, leb-true, leb-false, eq-eqb, ne_eqb,
 use Rattle.bits.specs.Bits.{laid, over}
 use Rattle.bits.specs.Reading.{Answer, given, refused}
 use Rattle.bits.proofs.Logic.{by_test, clash}
-use Rattle.model.specs.Calls.{number_of, among}
+use Rattle.model.specs.Calls.{among}
 use Rattle.model.specs.Text.{decimal}
-use Rattle.model.proofs.Numbers.{refused_by}
 use Rattle.model.proofs.Text.{decimal-few}
 use Rattle.grammar.specs.Note.{Note, note_count, note_refs, note_depth}
-use Rattle.grammar.specs.Places.{IsNote, Malformed, TooDeep}
+use Rattle.grammar.specs.Places.{IsNote, Malformed, TooDeep, note_refusals}
 use Rattle.grammar.specs.Reading.{Outcome, whole, stuck, scan, start, with_room, note_answer}
 use Rattle.grammar.proofs.Promises.{reads_exactly, given_blocks, malformed, too-deep, too_many_lem, note_numbers, note-length}
 use Rattle.notes.specs.Notes.{passes_as, refs_after}
-use Rattle.notes.specs.declared.Passes.{Passes}
+use Rattle.refusal.specs.declared.Refusal.{Refusal}
+use Rattle.refusal.specs.Refusals.{number, refusal_of}
 use Rattle.texts.specs.Texts.{Put, refusal_line}
 use Rattle.texts.proofs.Laws.{put_start, put_then, put_same, put_laid}
 use Rattle.listing.specs.Passes.{note_length, note_in, spaced, Blocks, passes_line, passes_lines, passes_printed}
@@ -64,17 +66,20 @@ pub put_block : {at k m n : ℕ} {a b c e : List ℕ} (i : ℕ) (blocks : List �
     → Put m (decimal (get_or blocks i 0)) c e n → Put at (spaced (take (i + 1) blocks)) a e n
 put_block i blocks h p q r = rw (add-one i) (put_same (sym (spaced_more i blocks h)) (put_then p (put_then q r)))
 
--- How many bytes of an input are the note.
-pub none_read : (input : List ℕ) → length input ≡ 0 → 0 ≡ note_length input
+-- The note in an input.
+pub none_read : (input : List ℕ) → length input < 1 → input ≡ note_in input
+unfolding note_in
 none_read [] e = refl
 none_read (b ∷ input) e = absurd (omega arith)
 
 module _ (input : List ℕ) where
-  pub feed_read : get_or input (length input - 1) 0 ≡ 10 → length input - 1 ≡ note_length input
+  pub feed_read : get_or input (length input - 1) 0 ≡ 10 → take (length input - 1) input ≡ note_in input
+  unfolding note_in
   feed_read e = rw (eq-eqb (get_or input (length input - 1) 0) 10 e)
 
-  pub all_read : (get_or input (length input - 1) 0 ≡ 10 → ⊥) → length input ≡ note_length input
-  all_read e = rw (ne_eqb (get_or input (length input - 1) 0) 10 e)
+  pub all_read : (get_or input (length input - 1) 0 ≡ 10 → ⊥) → input ≡ note_in input
+  unfolding note_in
+  all_read e = rw (ne_eqb (get_or input (length input - 1) 0) 10 e) (sym (take-length input))
 
   read_most : length input ≤ note_length input + 1
   read_most =
@@ -84,22 +89,38 @@ module _ (input : List ℕ) where
   read-within =
       by_test (eqb (get_or input (length input - 1) 0) 10) (λ y. rw y (omega arith)) (λ y. rw y (omega arith))
 
--- A refused call gives 22, 23 or 24.
-pub note_within : (t : List ℕ) (room n : ℕ) → note_answer t room ≡ refused n → (1 ≤ n) × (n ≤ 24)
-unfolding among
-note_within t room n e =
+-- A call that is refused gives the number of its refusal, 22, 23 or 24.
+number_back : (n : ℕ) → among n note_refusals ≡ true → (number (refusal_of n) ≡ n) × (n ≤ 24)
+unfolding among refusal_of
+number_back n e =
     by_test (eqb n 22)
-    (λ x. let s = eqb-true n 22 x in omega arith)
+    (λ x. rw (eqb-true n 22 x) (refl, omega arith))
     (λ x. by_test (eqb n 23)
-    (λ y. let s = eqb-true n 23 y in omega arith)
+    (λ y. rw (eqb-true n 23 y) (refl, omega arith))
     (λ y. by_test (eqb n 24)
-    (λ z. let s = eqb-true n 24 z in omega arith)
-    (λ z. clash ((note_numbers n).1 (t, room, e)) (rw (x, y, z)))))
+    (λ z. rw (eqb-true n 24 z) (refl, omega arith))
+    (λ z. clash e (rw (x, y, z)))))
 
--- A string that was written at the start of a slice.
-front_is : (n : ℕ) (s lent after : List ℕ) → n ≡ length s → after ≡ over s lent → take n after ≡ s
-unfolding over
-front_is n s lent after e f = rw f (take_at s _ n (sym e))
+pub refused_by : (t : List ℕ) (room : ℕ) (r : Refusal) → Err r ≡ passes_as (note_answer t room) → (note_answer t room ≡ refused (number r)) × (number r ≤ 24)
+refused_by t room r e = go (note_answer t room) refl e
+  where
+    go : (x : Answer (List ℕ)) → note_answer t room ≡ x → Err r ≡ passes_as x → (x ≡ refused (number r)) × (number r ≤ 24)
+    go (given refs) q f = absurd (cc)
+    go (refused n) q f =
+        let same : r ≡ refusal_of n = cc in
+        let back = number_back n ((note_numbers n).1 (t, room, q)) in
+        let is : number r ≡ n = ap number same ∙ back.0 in
+        (ap refused (sym is), omega (arith, is, back.1))
+
+-- A call that is not refused gives a string, at the start of the slice.
+pub given_by : (t : List ℕ) (room count : ℕ) (lent after : List ℕ) → Ok count ≡ passes_as (note_answer t room) → after ≡ refs_after (note_answer t room) lent
+    → note_answer t room ≡ given (take count after)
+unfolding refs_after over
+given_by t room count lent after e f = go (note_answer t room) e f
+  where
+    go : (x : Answer (List ℕ)) → Ok count ≡ passes_as x → after ≡ refs_after x lent → x ≡ given (take count after)
+    go (given refs) p q = let n : length refs ≡ count = cc in ap given (rw q (sym (take_at refs _ count n)))
+    go (refused n) p q = absurd (cc)
 
 -- A buffer holds what is printed, and that has n bytes, of which there are few.
 abbrev pub Printed : List ℕ → List ℕ → List ℕ → ℕ → Type 0
@@ -118,72 +139,40 @@ answer-enough : (t : List ℕ) (room : ℕ) → 2048 ≤ room → note_answer t 
 unfolding note_answer
 answer-enough t room h = room_enough room (scan start t) h
 
--- What reading gives: the value, and the slice after it.
-pub record NoteRead (input : List ℕ) (r : Passes) (blocks : List ℕ) : Type 0 where
-  pub lent : List ℕ
-  pub value : r ≡ passes_as (note_answer (note_in input) 2048)
-  pub entries : blocks ≡ refs_after (note_answer (note_in input) 2048) lent
+-- a text that is put at the start of the buffer
+put_printed : (input : List ℕ) {s out after : List ℕ} {n : ℕ} → passes_printed input ≡ s → Put 0 s out after n → n ≤ 8192 → Printed input out after n
+put_printed input same put few = let w = put_laid (sym same) put in (w.0, (w.1, few))
 
-pub note_read : (input : List ℕ) (k room : ℕ) (lent : List ℕ) {r : Passes} {blocks : List ℕ} → k ≡ note_length input
-    → r ≡ passes_as (note_answer (take k input) room) → blocks ≡ refs_after (note_answer (take k input) room) lent
-    → length blocks ≡ room → 2048 ≤ length blocks → NoteRead input r blocks
-unfolding note_in
-note_read input k room lent e p q s h =
-    let same = ap (λ (n : ℕ). note_answer (take n input) room) e ∙ answer-enough (note_in input) room (omega (arith, s, h)) in
-    record { lent = lent; value = p ∙ ap passes_as same; entries = q ∙ ap (λ (x : Answer (List ℕ)). refs_after x lent) same }
+-- A slice of `room` entries, of which there are enough, and the note in the input.
+module _ (input t : List ℕ) (room : ℕ) (is : t ≡ note_in input) (enough : 2048 ≤ room) where
+  same : note_answer (note_in input) 2048 ≡ note_answer t room
+  same = sym (answer-enough (note_in input) room enough) ∙ ap (λ (s : List ℕ). note_answer s room) (sym is)
 
-module _ {input : List ℕ} {r : Passes} {blocks : List ℕ} (read : NoteRead input r blocks) where
-  abbrev a : Answer (List ℕ)
-  a = note_answer (note_in input) 2048
-
-  number_is : r.number ≡ number_of a
-  number_is = ap (λ (x : Passes). x.number) read.value ∙ go a
-    where
-      go : (x : Answer (List ℕ)) → (passes_as x).number ≡ number_of x
-      go (given refs) = refl
-      go (refused n) = refl
-
-  pub number_small : r.number < 65536
-  number_small = go a refl number_is
-    where
-      go : (x : Answer (List ℕ)) → a ≡ x → r.number ≡ number_of x → r.number < 65536
-      go (given refs) q e = omega (arith, e)
-      go (refused n) q e = let b = (note_within (note_in input) 2048 n q).1 in omega (arith, b, e)
-
-  -- a text that is put at the start of the buffer
-  put_printed : {s out after : List ℕ} {n : ℕ} → passes_printed input ≡ s → Put 0 s out after n → n ≤ 8192 → Printed input out after n
-  put_printed same put few = let w = put_laid (sym same) put in (w.0, (w.1, few))
-
-  pub refusal_printed : (r.number ≡ 0 → ⊥) → {out after : List ℕ} {n : ℕ} → Put 0 (refusal_line r.number) out after n → n ≤ 14 → Printed input out after n
+  pub refusal_printed : (r : Refusal) → Err r ≡ passes_as (note_answer t room)
+      → {k : ℕ} → k ≡ number r → {out after : List ℕ} {n : ℕ} → Put 0 (refusal_line k) out after n → n ≤ 14 → Printed input out after n
   unfolding passes_printed passes_lines
-  refusal_printed f put few = put_printed (ap passes_lines (refused_by a r.number number_is f)) put (omega (arith, few))
+  refusal_printed r e is put few = put_printed input (ap passes_lines (same ∙ (refused_by t room r e).0 ∙ ap refused (sym is))) put (omega (arith, few))
 
-  -- the string that was given stands at the start of the slice
-  pub string : r.number ≡ 0 → (refs : List ℕ) × (a ≡ given refs) × (r.count ≡ length refs) × (blocks ≡ over refs read.lent)
-  unfolding refs_after
-  string z = go a refl
-    where
-      go : (x : Answer (List ℕ)) → a ≡ x → (refs : List ℕ) × (a ≡ given refs) × (r.count ≡ length refs) × (blocks ≡ over refs read.lent)
-      go (given refs) q =
-          (refs, q, ap (λ (y : Passes). y.count) (read.value ∙ ap passes_as q), read.entries ∙ ap (λ (y : Answer (List ℕ)). refs_after y read.lent) q)
-      go (refused n) q = let b = (note_within (note_in input) 2048 n q).0 in let e = number_is ∙ ap number_of q in absurd (omega (arith, b, e, z))
+  module _ (count : ℕ) (lent after : List ℕ) (e : Ok count ≡ passes_as (note_answer t room)) (f : after ≡ refs_after (note_answer t room) lent) where
+    string_is : note_answer (note_in input) 2048 ≡ given (take count after)
+    string_is = same ∙ given_by t room count lent after e f
 
-  module _ (z : r.number ≡ 0) where
-    string_is : take r.count blocks ≡ (string z).0
-    string_is = let w = string z in front_is r.count w.0 read.lent blocks w.2 w.3
+    pub count-within : count ≤ 2048
+    count-within = go (note_answer t room) refl e
+      where
+        go : (x : Answer (List ℕ)) → note_answer t room ≡ x → Ok count ≡ passes_as x → count ≤ 2048
+        go (given refs) q p = let n : count ≡ length refs = cc in let few = ((reads_exactly t room refs).0 q).5 in omega (arith, n, few)
+        go (refused n) q p = absurd (cc)
 
-    pub count-within : r.count ≤ 2048
-    count-within = let h = ((reads_exactly (note_in input) 2048 (string z).0).0 (string z).1).5 in let e = (string z).2 in omega (arith, h, e)
-
-    pub string_blocks : Blocks (take r.count blocks)
-    string_blocks = rw string_is record {
-      few = ((reads_exactly (note_in input) 2048 (string z).0).0 (string z).1).5;
-      small = given_blocks (note_in input) 2048 (string z).0 (string z).1;
+    pub string_blocks : Blocks (take count after)
+    string_blocks = record {
+      few = ((reads_exactly (note_in input) 2048 (take count after)).0 string_is).5;
+      small = given_blocks (note_in input) 2048 (take count after) string_is;
     }
 
-    pub string_printed : {out after : List ℕ} {n : ℕ} → Put 0 (passes_line (take r.count blocks)) out after n → n ≤ 8192 → Printed input out after n
+    pub string_printed : {out end : List ℕ} {n : ℕ} → Put 0 (passes_line (take count after)) out end n → n ≤ 8192 → Printed input out end n
     unfolding passes_printed passes_lines
-    string_printed put few = put_printed (ap passes_lines (string z).1 ∙ ap passes_line (sym string_is)) put few
+    string_printed put few = put_printed input (ap passes_lines string_is) put few
 
 -- The note in an input: one line feed at its end is not part of it, and all else is.
 pub note_in_feed : (s : List ℕ) → note_in (s ++ 10 ∷ []) ≡ s

@@ -4,7 +4,7 @@
 ghost use Rattle.std.specs.Prelude.{◌≡◌, ◌≤◌, length};
 ghost use Rattle.bits.specs.Bits.{laid};
 ghost use Rattle.texts.specs.Texts.{Put};
-ghost use Rattle.listing.specs.Passes.{note_length, Blocks, passes_line, passes_printed};
+ghost use Rattle.listing.specs.Passes.{note_in, Blocks, passes_line, passes_printed};
 
 // The line of the references: their block numbers, separated by spaces, and a line feed.
 fn put_blocks(out: &mut [u8], blocks: &[u16]) -> usize
@@ -13,29 +13,23 @@ fn put_blocks(out: &mut [u8], blocks: &[u16]) -> usize
     ensures few { result ≤ 8192 }
 {
     let mut at = 0;
-    let mut i = 0;
-    while i < blocks.len() {
+    for (i, block) in blocks.iter().enumerate() {
         if i > 0 {
             at = texts::put(out, at, b' ');
         }
-        at = texts::put_decimal(out, at, blocks[i] as usize);
-        i += 1;
+        at = texts::put_decimal(out, at, *block as usize);
     }
     texts::put(out, at, b'\n')
 }
 
-// How many bytes of the input are the note: one line feed at its end is not part of it.
-fn note_length(input: &[u8]) -> usize
-    ensures { result ≡ note_length input.now }
+// The note in the input: one line feed at its end is not part of it.
+fn note_in(input: &[u8]) -> &[u8]
+    ensures { result.now ≡ note_in input.now }
 {
-    let n = input.len();
-    if n == 0 {
-        return 0;
+    match input {
+        [note @ .., b'\n'] => note,
+        _ => input,
     }
-    if input[n - 1] == b'\n' {
-        return n - 1;
-    }
-    n
 }
 
 // The text of `passes` for its input, written as far as `out` reaches, and its length, at most 8,192 bytes: the line of the references, or of a
@@ -46,12 +40,8 @@ pub fn passes(input: &[u8], out: &mut [u8]) -> usize
     ensures few { result ≤ 8192 }
 {
     let mut blocks = [0u16; 2048];
-    let end = note_length(input);
-    let read = notes::read(&input[..end], &mut blocks);
-    let number = read.number;
-    if number != 0 {
-        return texts::put_refusal(out, number);
+    match notes::read(note_in(input), &mut blocks) {
+        Ok(count) => put_blocks(out, &blocks[..count]),
+        Err(refusal) => texts::put_refusal(out, refusal.number()),
     }
-    let count = read.count;
-    put_blocks(out, &blocks[..count])
 }

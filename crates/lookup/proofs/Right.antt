@@ -9,7 +9,8 @@ use Rattle.model.specs.Playing.{State, is_resident, load}
 use Rattle.model.specs.Rules.{distance}
 use Rattle.model.specs.Valid.{Block}
 use Rattle.lookup.specs.Lookup.{chain_from}
-use Rattle.lookup.specs.Desk.{nexts, laters, helds, looks, of_block, of_disk}
+use Rattle.lookup.specs.declared.Desk.{Desk}
+use Rattle.lookup.specs.declared.Steps.{Steps}
 
 -- The residents of disk d, each once: `count` of them from place d * 64 on.
 pub record Listed (j : Job) (marks : List Bool) (d : ℕ) (residents : List ℕ) (count : ℕ) : Type 0 where
@@ -33,16 +34,15 @@ pub record DiskRight (j : Job) (marks : List Bool) (from d : ℕ) (residents : L
   pub stops : look < ref_count j → is_resident marks (ref_at j look) ≡ false
 
 -- A whole desk, in a state.
-pub record Right (j : Job) (s : State) (desk : List (List ℕ)) : Type 0 where
-  pub disks : (d : ℕ) → d < disk_count j → DiskRight j s.resident s.next d (helds desk) (get_or (looks desk) d 0) (laters desk)
-  pub distances : (b : ℕ) → b < 512 → get_or (nexts desk) b 0 ≡ distance j.refs s.next b
-  pub rows : length desk ≡ 4
-  pub long_nexts : length (nexts desk) ≡ 512
-  pub long_laters : length (laters desk) ≡ 512
-  pub long_helds : length (helds desk) ≡ 512
-  pub long_looks : length (looks desk) ≡ 512
+pub record Right (j : Job) (s : State) (desk : Desk) : Type 0 where
+  pub disks : (d : ℕ) → d < disk_count j → DiskRight j s.resident s.next d desk.held (get_or desk.look d 0) desk.later
+  pub distances : (b : ℕ) → b < 512 → get_or desk.next b 0 ≡ distance j.refs s.next b
+  pub long_nexts : length desk.next ≡ 512
+  pub long_laters : length desk.later ≡ 512
+  pub long_helds : length desk.held ≡ 512
+  pub long_looks : length desk.look ≡ 512
 
 -- The steps of a job's references: from each to the next one of its block, and to the next one of its disk.
-pub record Forward (j : Job) (steps : List (List ℕ)) : Type 0 where
-  pub blocks : (i : ℕ) → i < ref_count j → get_or (of_block steps) i 0 ≡ distance j.refs (suc i) (ref_at j i)
-  pub disks : (i : ℕ) → i < ref_count j → get_or (of_disk steps) i 0 ≡ chain_from j.block_disks j.refs (suc i) (disk_of j (ref_at j i))
+pub record Forward (j : Job) (steps : Steps) : Type 0 where
+  pub blocks : (i : ℕ) → i < ref_count j → get_or steps.of_block i 0 ≡ distance j.refs (suc i) (ref_at j i)
+  pub disks : (i : ℕ) → i < ref_count j → get_or steps.of_disk i 0 ≡ chain_from j.block_disks j.refs (suc i) (disk_of j (ref_at j i))

@@ -1,4 +1,4 @@
-// References in lent slices: copied, repeated, and two sides taken in turn; counts of references, and the place where a piece of a note is read.
+// References in lent slices: repeated, and two sides taken in turn; counts of references, and the place where a piece of a note is read.
 // Document 02, L6.
 #![tactic(auto)]
 
@@ -20,19 +20,7 @@ pub struct Place {
 pub fn cap(n: usize) -> usize
     ensures { result ≡ capped n }
 {
-    if n < 2049 { n } else { 2049 }
-}
-
-// The references of a slice written into another that is as long.
-pub fn copy(from: &[u16], to: &mut [u16])
-    requires { length from.now ≡ length to.old }
-    ensures { to.new ≡ from.now }
-{
-    let mut i = 0;
-    while i < from.len() {
-        to[i] = from[i];
-        i += 1;
-    }
+    n.min(2049)
 }
 
 // The first `one` references of a part, repeated so that there are `times` of them, which fill the part.
@@ -40,10 +28,8 @@ pub fn repeat(part: &mut [u16], one: usize, times: usize)
     requires { (length part.old ≡ times * one) × (1 ≤ times) }
     ensures { part.new ≡ repeated times (take one part.old) }
 {
-    let mut i = one;
-    while i < part.len() {
+    for i in one..part.len() {
         part[i] = part[i - one];
-        i += 1;
     }
 }
 
@@ -56,14 +42,12 @@ pub fn mix(right: &[u16], left: &mut [u16])
 {
     let r = right.len();
     let m = left.len() - r;
-    let mut i = 0;
-    while i < r {
+    for i in 0..r {
         if i < m {
             left[2 * i] = left[r + i];
             left[2 * i + 1] = right[i];
         } else {
             left[m + i] = right[i];
         }
-        i += 1;
     }
 }

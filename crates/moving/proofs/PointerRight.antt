@@ -16,15 +16,15 @@ use Rattle.model.specs.Job.{Job, Sound, block_count, ref_count, disk_of, ref_at}
 use Rattle.model.specs.Playing.{is_resident}
 use Rattle.model.specs.Rules.{distance}
 use Rattle.model.proofs.Distances.{distance_hit}
-use Rattle.lookup.specs.Desk.{row, laters, looks, of_block, of_disk}
-use Rattle.lookup.proofs.Rows.{row_other, row_same}
-use Rattle.moving.specs.Moving.{Ahead, move_from, moved_on}
+use Rattle.lookup.specs.declared.Desk.{Desk}
+use Rattle.lookup.specs.declared.Steps.{Steps}
+use Rattle.moving.specs.Moving.{Ahead, move_from}
 use Rattle.lookup.proofs.Right.{Pointer, Forward}
 
 -- one reference of the disk is passed
-module _ {j : Job} {resident : List Bool} {from d p : ℕ} {steps : List (List ℕ)} {later : List ℕ} (sound : Sound j) (tables : Forward j steps)
+module _ {j : Job} {resident : List Bool} {from d p : ℕ} {steps : Steps} {later : List ℕ} (sound : Sound j) (tables : Forward j steps)
     (pointer : Pointer j resident from d p later) (more : p < ref_count j) where
-  next_is : get_or (of_disk steps) p 0 ≡ chain_from j.block_disks j.refs (suc p) d
+  next_is : get_or steps.of_disk p 0 ≡ chain_from j.block_disks j.refs (suc p) d
   next_is = tables.disks p more ∙ ap (chain_from j.block_disks j.refs (suc p)) (pointer.on_disk more)
 
   -- no missing block of the disk is referenced before its next reference
@@ -44,7 +44,7 @@ module _ {j : Job} {resident : List Bool} {from d p : ℕ} {steps : List (List �
       (ap (disk_of j) hit ∙ on))))
 
   pub pointer_on : is_resident resident (ref_at j p) ≡ true → ref_at j p < length later
-      → Pointer j resident from d (get_or (of_disk steps) p 0) (set later (ref_at j p) (get_or (of_block steps) p 0))
+      → Pointer j resident from d (get_or steps.of_disk p 0) (set later (ref_at j p) (get_or steps.of_block p 0))
   pointer_on here room =
       let from-p = pointer.onward in
       let next = chain-from j.block_disks j.refs (suc p) d in
@@ -54,32 +54,32 @@ module _ {j : Job} {resident : List Bool} {from d p : ℕ} {steps : List (List �
         on_disk = chain_hit j.block_disks j.refs (suc p) d;
         least = next-least here;
         laters = λ b k on.
-            chain_pass j.block_disks j.refs later p (get_or (of_block steps) p 0) d b more room (tables.blocks p more) on (pointer.laters b k on);
+            chain_pass j.block_disks j.refs later p (get_or steps.of_block p 0) d b more room (tables.blocks p more) on (pointer.laters b k on);
       }
 
-  pub others_on : (b : ℕ) → (b < block_count j → disk_of j b ≢ d) → get_or (set later (ref_at j p) (get_or (of_block steps) p 0)) b 0 ≡ get_or later b 0
+  pub others_on : (b : ℕ) → (b < block_count j → disk_of j b ≢ d) → get_or (set later (ref_at j p) (get_or steps.of_block p 0)) b 0 ≡ get_or later b 0
   others_on b off =
-      get_or-set_other later (ref_at j p) b (get_or (of_block steps) p 0) 0
+      get_or-set_other later (ref_at j p) b (get_or steps.of_block p 0) 0
       (λ e. off (subst (λ (x : ℕ). x < block_count j) (sym e) (sound.to_blocks p more)) (ap (disk_of j) e ∙ pointer.on_disk more))
 
 -- A pointer has moved from `look` to p, and the distances from it are then `after`: in any job with these references and steps, a pointer that was
 -- right for a disk is right for it there, and the entries of all blocks but the disk's are as they were.
-pub record Moved (refs : List ℕ) (resident : List Bool) (steps : List (List ℕ)) (before : List ℕ) (look p : ℕ) (after : List ℕ) : Type 0 where
+pub record Moved (refs : List ℕ) (resident : List Bool) (steps : Steps) (before : List ℕ) (look p : ℕ) (after : List ℕ) : Type 0 where
   pub long : length after ≡ length before
   pub within : look ≤ length refs → p ≤ length refs
   pub right : (j : Job) (from d : ℕ) → j.refs ≡ refs → Sound j → Forward j steps → block_count j ≤ length before
       → Pointer j resident from d look before
       → Pointer j resident from d p after × ((b : ℕ) → (b < block_count j → disk_of j b ≢ d) → get_or after b 0 ≡ get_or before b 0)
 
-module _ (refs : List ℕ) (resident : List Bool) (steps : List (List ℕ)) where
+module _ (refs : List ℕ) (resident : List Bool) (steps : Steps) where
   moved_none : (before : List ℕ) (look : ℕ) → Moved refs resident steps before look look before
   moved_none before look = record { long = refl; within = λ l. l; right = λ j from d e sound tables room pointer. (pointer, λ b off. refl) }
 
   moved_on_lem : (before : List ℕ) (look p : ℕ) (later : List ℕ) → Moved refs resident steps before look p later → p < length refs
-      → is_resident resident (get_or refs p 0) ≡ true → get_or (of_disk steps) p 0 ≤ length refs
-      → Moved refs resident steps before look (get_or (of_disk steps) p 0) (set later (get_or refs p 0) (get_or (of_block steps) p 0))
+      → is_resident resident (get_or refs p 0) ≡ true → get_or steps.of_disk p 0 ≤ length refs
+      → Moved refs resident steps before look (get_or steps.of_disk p 0) (set later (get_or refs p 0) (get_or steps.of_block p 0))
   moved_on_lem before look p later was more here to = record {
-    long = length-set later (get_or refs p 0) (get_or (of_block steps) p 0) ∙ was.long;
+    long = length-set later (get_or refs p 0) (get_or steps.of_block p 0) ∙ was.long;
     within = λ _. to;
     right = λ j from d e sound tables room pointer.
         (let so_far = was.right j from d e sound tables room pointer in
@@ -92,83 +92,43 @@ module _ (refs : List ℕ) (resident : List Bool) (steps : List (List ℕ)) wher
         ));
   }
 
-  -- the pointer's way changes no other row, and no row's length
-  pub move_row : (n p : ℕ) (desk : List (List ℕ)) (q : ℕ) → q ≢ 1 → row (move_from refs resident steps n p desk).1 q ≡ row desk q
-  unfolding move_from
-  move_row zero p desk q other = refl
-  move_row (suc n) p desk q other =
-      by_test (ltb p (length refs) && get_or resident (get_or refs p 0) false)
-      (λ y. rw y (move_row n _ _ q other ∙ row_other desk 1 q (get_or refs p 0) (get_or (of_block steps) p 0) other))
-      (λ f. rw f refl)
-
-  pub move_length : (n p : ℕ) (desk : List (List ℕ)) → length (move_from refs resident steps n p desk).1 ≡ length desk
-  unfolding move_from
-  move_length zero p desk = refl
-  move_length (suc n) p desk =
-      by_test (ltb p (length refs) && get_or resident (get_or refs p 0) false)
-      (λ y. rw y (move_length n _ _ ∙ length-set desk 1 _))
-      (λ f. rw f refl)
-
-  module _ (ahead : Ahead (length refs) (of_disk steps)) where
+  module _ (ahead : Ahead (length refs) steps.of_disk) where
     -- a pointer that is right stays so all the way,
-    move_moved : (before : List ℕ) (look n p : ℕ) (desk : List (List ℕ)) → 1 < length desk → Moved refs resident steps before look p (laters desk)
-        → let m = move_from refs resident steps n p desk in Moved refs resident steps before look m.0 (laters m.1)
+    move_moved : (before : List ℕ) (look n p : ℕ) (later : List ℕ) → Moved refs resident steps before look p later
+        → let m = move_from refs resident steps n p later in Moved refs resident steps before look m.0 m.1
     unfolding move_from
-    move_moved before look zero p desk rows m = m
-    move_moved before look (suc n) p desk rows m =
+    move_moved before look zero p later m = m
+    move_moved before look (suc n) p later m =
         by_test (ltb p (length refs) && get_or resident (get_or refs p 0) false)
         (λ y. let l = ltb-true p (length refs) (and_left _ _ y) in
-        let rows₁ = length-set desk 1 (set (laters desk) (get_or refs p 0) (get_or (of_block steps) p 0)) in
-        rw y (move_moved before look n _ _ (omega (arith, rows₁, rows))
-        (subst (Moved refs resident steps before look (get_or (of_disk steps) p 0))
-        (sym (row_same desk 1 (get_or refs p 0) (get_or (of_block steps) p 0) rows))
-        (moved_on_lem before look p (laters desk) m l (and_right (ltb p (length refs)) _ y) (ahead p l).1))))
+        rw y (move_moved before look n _ _ (moved_on_lem before look p later m l (and_right (ltb p (length refs)) _ y) (ahead p l).1)))
         (λ f. rw f m)
 
     -- and it stops at a missing block or at the end.
-    move_stops : (n p : ℕ) (desk : List (List ℕ)) → length refs ≤ p + n → let q = (move_from refs resident steps n p desk).0 in
+    move_stops : (n p : ℕ) (later : List ℕ) → length refs ≤ p + n → let q = (move_from refs resident steps n p later).0 in
         q < length refs → is_resident resident (get_or refs q 0) ≡ false
     unfolding move_from
-    move_stops zero p desk r = λ l. absurd (omega arith)
-    move_stops (suc n) p desk r =
+    move_stops zero p later r = λ l. absurd (omega arith)
+    move_stops (suc n) p later r =
         by_test (ltb p (length refs))
         (λ y. by_test (is_resident resident (get_or refs p 0))
         (λ h. let l = ltb-true p (length refs) y in let a = (ahead p l).0 in rw (y, h) (move_stops n _ _ (omega (arith, a, r))))
         (λ h. rw (y, h) (λ _. h)))
         (λ f. rw f (λ l. absurd (let k = ltb-false p (length refs) f in omega (arith, k, l))))
 
-    -- The pointer of disk d, from where the desk has it to where it stops: the rows after.
-    module _ (d : ℕ) (desk : List (List ℕ)) (rows : length desk ≡ 4) (few : length refs ≤ 2048) where
-      abbrev end : ℕ × List (List ℕ)
-      end = move_from refs resident steps 2048 (get_or (looks desk) d 0) desk
+    -- The pointer of disk d, from where the desk has it to where it stops.
+    module _ (d : ℕ) (desk : Desk) (few : length refs ≤ 2048) where
+      abbrev end : ℕ × List ℕ
+      end = move_from refs resident steps 2048 (get_or desk.look d 0) desk.later
 
-      pub moved_row : (q : ℕ) → q ≢ 1 → q ≢ 3 → row (moved_on refs resident steps d desk) q ≡ row desk q
-      unfolding moved_on
-      moved_row q n m = row_other end.1 3 q d end.0 m ∙ move_row 2048 (get_or (looks desk) d 0) desk q n
-
-      pub moved_laters : laters (moved_on refs resident steps d desk) ≡ laters end.1
-      unfolding moved_on
-      moved_laters = row_other end.1 3 1 d end.0 (λ e. omega (arith, e))
-
-      pub moved_looks : looks (moved_on refs resident steps d desk) ≡ set (looks desk) d end.0
-      unfolding moved_on
-      moved_looks =
-          row_same end.1 3 d end.0 (let e = move_length 2048 (get_or (looks desk) d 0) desk in omega (arith, e, rows))
-          ∙ ap (λ (l : List ℕ). set l d end.0) (move_row 2048 (get_or (looks desk) d 0) desk 3 (λ e. omega (arith, e)))
-
-      pub moved_rows : length (moved_on refs resident steps d desk) ≡ 4
-      unfolding moved_on
-      moved_rows = length-set end.1 3 _ ∙ move_length 2048 (get_or (looks desk) d 0) desk ∙ rows
-
-      pub moved_moved : Moved refs resident steps (laters desk) (get_or (looks desk) d 0) end.0 (laters end.1)
-      moved_moved = move_moved (laters desk) (get_or (looks desk) d 0) 2048 (get_or (looks desk) d 0) desk (omega (arith, rows))
-          (moved_none (laters desk) _)
+      pub moved_moved : Moved refs resident steps desk.later (get_or desk.look d 0) end.0 end.1
+      moved_moved = move_moved desk.later (get_or desk.look d 0) 2048 (get_or desk.look d 0) desk.later (moved_none desk.later _)
 
       pub moved_stops : end.0 < length refs → is_resident resident (get_or refs end.0 0) ≡ false
-      moved_stops = move_stops 2048 (get_or (looks desk) d 0) desk (omega (arith, few))
+      moved_stops = move_stops 2048 (get_or desk.look d 0) desk.later (omega (arith, few))
 
 -- steps lead onwards, and no further than the end
-pub forward_ahead : {j : Job} {steps : List (List ℕ)} → Forward j steps → Ahead (ref_count j) (of_disk steps)
+pub forward_ahead : {j : Job} {steps : Steps} → Forward j steps → Ahead (ref_count j) steps.of_disk
 forward_ahead {j} {steps} forward i l =
     let e = forward.disks i l in
     let next = chain-from j.block_disks j.refs (suc i) (disk_of j (ref_at j i)) in

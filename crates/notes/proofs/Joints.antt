@@ -12,8 +12,12 @@ use borrow.Author.Tests.{leb-true, leb-false}
 use Rattle.bits.proofs.Logic.{by_test}
 use Rattle.grammar.specs.Note.{Item, Side, Note}
 use Rattle.grammar.specs.Reading.{Before, side_with, note_with, begin, read, space, bar, state, after_in, after, stuck, scan}
+use Rattle.std.proofs.Common.{Result, Ok, Err}
+use Rattle.refusal.specs.Refusals.{number}
+use Rattle.pieces.specs.declared.Met.{Met}
 use Rattle.pieces.specs.declared.Joint.{Joint}
-use Rattle.pieces.specs.Pieces.{begins_with, joint_at, another_item, another_side, note_ends, refused_joint}
+use Rattle.pieces.specs.declared.Joint.TheVariants.{Item as AnItem, Side as ASide, End}
+use Rattle.pieces.specs.Pieces.{begins_with, joint_at}
 use Rattle.pieces.proofs.Laws.{char_at, begins_within, joint_side, joint_bar, joint_item, joint_close, joint_end, joint_wrong}
 use Rattle.notes.specs.Readers.{Ended}
 use Rattle.grammar.proofs.Scan.{scan_on, scan-stuck}
@@ -27,16 +31,22 @@ with_item b i = record { sides = b.sides; items = some (side_with b.items i) }
 abbrev pub with_side : Before → Item → Before
 with_side b i = record { sides = some (note_with b i); items = none }
 
+-- Reading goes on at `to`, before another item.
+pub record GoesOn (t : List ℕ) (at : ℕ) (i : Item) (before : Before → Item → Before) (to : ℕ) : Type 0 where
+  pub on : at < to
+  pub within : to ≤ length t
+  pub scanned : (b : Before) (o : List Before) → length o ≤ 16 → scan (state (read b i) o) (drop at t) ≡ scan (state (begin (before b i)) o) (drop to t)
+
+-- Nothing that can follow.
+pub record Wrong (t : List ℕ) (at : ℕ) (i : Item) (m : Met) : Type 0 where
+  pub met : (b : Before) (o : List Before) → length o ≤ 16 → scan (state (read b i) o) (drop at t) ≡ stuck (number m.refusal) (drop m.at t)
+
 -- The four cases.
-pub data Follows (t : List ℕ) (at : ℕ) (i : Item) : Joint → Type 0 where
-  item_next : (to : ℕ) → at < to → to ≤ length t
-      → ((b : Before) (o : List Before) → length o ≤ 16 → scan (state (read b i) o) (drop at t) ≡ scan (state (begin (with_item b i)) o) (drop to t))
-      → Follows t at i (another_item to)
-  side_next : (to : ℕ) → at < to → to ≤ length t
-      → ((b : Before) (o : List Before) → length o ≤ 16 → scan (state (read b i) o) (drop at t) ≡ scan (state (begin (with_side b i)) o) (drop to t))
-      → Follows t at i (another_side to)
-  end_next : ((at ≡ length t) ⊎ (begins_with 41 (drop at t) ≡ true)) → Follows t at i (note_ends at)
-  wrong_next : (to : ℕ) → ((b : Before) (o : List Before) → length o ≤ 16 → scan (state (read b i) o) (drop at t) ≡ stuck 22 (drop to t)) → Follows t at i (refused_joint to)
+abbrev pub Follows : List ℕ → ℕ → Item → Result Joint Met → Type 0
+Follows t at i (Ok (AnItem to)) = GoesOn t at i with_item to
+Follows t at i (Ok (ASide to)) = GoesOn t at i with_side to
+Follows t at i (Ok End) = (at ≡ length t) ⊎ (begins_with 41 (drop at t) ≡ true)
+Follows t at i (Err m) = Wrong t at i m
 
 -- after a space an item begins, unless a bar stands there; after a bar a space stands
 space_begins : (n : Option Note) (s : Side) (o : List Before) (l : List ℕ) → begins_with 124 l ≡ false
@@ -71,34 +81,44 @@ module _ (t : List ℕ) (at : ℕ) (i : Item) where
         let three : at + 2 + 1 ≡ at + 3 = omega arith in
         by_test (begins_with 32 (drop (at + 2) t))
         (λ g. let w = begins_within 32 t (at + 2) refl g in
-        rw (joint_side t at e f g) (side_next (at + 3) (omega arith) (omega arith) λ b o few.
-        barred f b o few ∙ ap (scan (state (bar (note_with b i)) o)) (char_here 32 t (at + 2) g)
-        ∙ scan_on (state (bar (note_with b i)) o) (state (begin (with_side b i)) o) 32 (drop (at + 2 + 1) t) (bar_spaces (note_with b i) o) few
-        ∙ ap (λ (k : ℕ). scan (state (begin (with_side b i)) o) (drop k t)) three))
-        (λ g. rw (joint_bar t at e f g) (wrong_next (at + 2) λ b o few. barred f b o few ∙ bar_wrong (note_with b i) o (drop (at + 2) t) g))
+        rw (joint_side t at e f g) record {
+          on = omega arith;
+          within = omega arith;
+          scanned = λ b o few.
+              barred f b o few ∙ ap (scan (state (bar (note_with b i)) o)) (char_here 32 t (at + 2) g)
+              ∙ scan_on (state (bar (note_with b i)) o) (state (begin (with_side b i)) o) 32 (drop (at + 2 + 1) t) (bar_spaces (note_with b i) o) few
+              ∙ ap (λ (k : ℕ). scan (state (begin (with_side b i)) o) (drop k t)) three;
+        })
+        (λ g. rw (joint_bar t at e f g) record { met = λ b o few. barred f b o few ∙ bar_wrong (note_with b i) o (drop (at + 2) t) g })
 
     after-space : Follows t at i (joint_at t at)
     after-space =
         let w = begins_within 32 t at refl e in
         by_test (begins_with 124 (drop (at + 1) t))
         after-bar
-        (λ f. rw (joint_item t at e f) (item_next (at + 1) (omega arith) (omega arith) λ b o few.
-        spaced b o few ∙ space_begins b.sides (side_with b.items i) o (drop (at + 1) t) f))
+        (λ f. rw (joint_item t at e f) record {
+          on = omega arith;
+          within = omega arith;
+          scanned = λ b o few.
+              spaced b o few ∙ space_begins b.sides (side_with b.items i) o (drop (at + 1) t) f;
+        })
 
   module _ (ended : Ended i (drop at t)) (within : at ≤ length t) (e : begins_with 32 (drop at t) ≡ false) where
     other : begins_with 41 (drop at t) ≡ false → at < length t → Follows t at i (joint_at t at)
     unfolding begins_with
     other f h =
         let is = char_at t at h in
-        rw (joint_wrong t at e f h) (wrong_next at λ b o few.
-        rw is (scan-stuck (state (read b i) o) (get_or t at 0) (drop (suc at) t) (ended_off b i o (get_or t at 0) (drop (suc at) t) (rw is at ended) (rw is at e) (rw is at f))))
+        rw (joint_wrong t at e f h) record {
+          met = λ b o few.
+              rw is (scan-stuck (state (read b i) o) (get_or t at 0) (drop (suc at) t) (ended_off b i o (get_or t at 0) (drop (suc at) t) (rw is at ended) (rw is at e) (rw is at f)));
+        }
 
     after_other : Follows t at i (joint_at t at)
     after_other =
         by_test (begins_with 41 (drop at t))
-        (λ f. rw (joint_close t at e f) (end_next (inr f)))
+        (λ f. rw (joint_close t at e f) (inr f))
         (λ f. by_test (leb (length t) at)
-        (λ g. let h = leb-true (length t) at g in rw (joint_end t at h) (end_next (inl (omega arith))))
+        (λ g. let h = leb-true (length t) at g in rw (joint_end t at h) (inl (omega arith)))
         (λ g. other f (leb-false (length t) at g)))
 
   pub follows : Ended i (drop at t) → at ≤ length t → Follows t at i (joint_at t at)

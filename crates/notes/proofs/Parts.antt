@@ -1,36 +1,39 @@
 -- An item by its parts: a block or a note in parentheses, and the count that may follow. Assumes nothing.
 use mathlib.Core.Path.{◌≡◌, refl, sym, ap, ◌∙◌}
-use mathlib.Core.Bool.{true, false, cond, true≢false}
+use Rattle.std.proofs.Common.{Option, Some, None, Result, Ok, Err}
+use mathlib.Core.Bool.{true, false}
 use mathlib.Core.List.{List, [], ◌∷◌, append-nil}
-use mathlib.Core.Logic.{◌⊎◌, inl, inr, ⊎_elim}
+use mathlib.Core.Logic.{⊎_elim}
 use Prim.Native.Nat.{ℕ, suc, ◌+◌, ◌*◌, ◌-◌, ◌≤◌, ◌<◌}
 use native.Mathlib.Nat.{mul_comm, le-mul_of_pos_right}
 use native.Mathlib.Omega.{arith}
 use native.Mathlib.Numerals.{add-one}
-use lib.Dec.{ltb, leb, eqb}
+use lib.Dec.{ltb}
 use lib.ListN.{length, take, drop, get_or, length-drop}
 use lib.Seq.{take-suc-set}
-use borrow.Author.Tests.{lt-ltb, eqb-true, eq-eqb, ne_eqb, le-leb, leb-true, ltb-true}
-use Rattle.bits.proofs.Logic.{by_test, clash, and_right}
+use borrow.Author.Tests.{eqb-true, le-leb, ltb-true, ltb-false}
+use Rattle.bits.proofs.Logic.{by_test, clash}
 use Rattle.grammar.specs.Note.{Part, block, inside, Item, once, times, repeated, part_refs, item_refs, part_count, item_count}
 use Rattle.grammar.specs.Reading.{Before, nothing, note_with, begin, read, star, state, is_digit, digit, after_in, stuck, scan}
 use Rattle.grammar.proofs.Counts.{part-count_is}
-use Rattle.pieces.specs.Pieces.{begins_with, first_digit, digits_from, count_at}
-use Rattle.pieces.proofs.Laws.{char_at, drop_past, begins_within, digits-place, digits-some, count_none, count-number, count_wrong}
+use Rattle.refusal.specs.declared.Refusal.TheVariants.{NoteParentheses}
+use Rattle.refusal.specs.Refusals.{number}
+use Rattle.pieces.specs.Pieces.{begins_with, first_digit, digits_from, malformed, count_begun, count_at}
+use Rattle.pieces.proofs.Laws.{char_at, drop_past, begins_within, digits-place, digits-some}
 use Rattle.pieces.specs.declared.Counted.{Counted}
+use Rattle.pieces.specs.declared.Met.{Met}
 use Rattle.mixing.specs.declared.Place.{Place}
 use Rattle.mixing.specs.Room.{capped}
+use Rattle.mixing.proofs.Room.{room}
 use Rattle.building.specs.declared.Piece.{Piece}
-use Rattle.building.specs.Building.{refused_piece, number_at, block_at, block_laid, closed_at, counted_at, counted_line}
+use Rattle.building.specs.Building.{number_at, block_from, block_at, laid_from, block_laid, closed_at, counted_by, counted_at, line_by, counted_line}
 use Rattle.notes.specs.Readers.{Built, Ended, ItemGot, ItemRefused, ItemRead, NoteGot, NoteRefused, NoteRead}
-use Rattle.building.proofs.Laws.{counted-refused, counted_wrong, counted-times, line_times}
 use Rattle.notes.proofs.Lines.{ends_front, ends-refs, ends-laid, cap_few, cap_times}
 use Rattle.grammar.proofs.Scan.{scan_on, scan-stuck, scan-deep}
 use Rattle.notes.proofs.Scanning.{opens, closes, begins_block, begins_none, stars, counts, drop_tail, digits-scan, digits-stops, block_grows, count_grows, block-ended, inside-ended, times-ended}
 
 -- A part that was read, before the count that may follow.
 pub record PartGot (t : List ℕ) (from : Place) (line₀ left₀ line left : List ℕ) (r : Piece) (p : Part) : Type 0 where
-  pub taken : r.number ≡ 0
   pub further : from.at < r.at
   pub within : r.at ≤ length t
   pub scanned : (b : Before) (o : List Before) → length o + from.depth ≡ 16 → scan (state (begin b) o) (drop from.at t) ≡ scan (state (read b (once p)) o) (drop r.at t)
@@ -38,12 +41,9 @@ pub record PartGot (t : List ℕ) (from : Place) (line₀ left₀ line left : Li
   pub counted : r.count ≡ capped (part_count p)
   pub built : from.line + from.left + part_count p ≤ 2048 → Built from (part_refs p) line₀ left₀ line left
 
-abbrev pub PartRead : List ℕ → Place → List ℕ → List ℕ → List ℕ → List ℕ → Piece → Type 0
-PartRead t from line₀ left₀ line left r = ItemRefused t from r ⊎ ((p : Part) × PartGot t from line₀ left₀ line left r p)
-
--- its count is at most 2049
-pub part-few : (t : List ℕ) (from : Place) (line₀ left₀ line left : List ℕ) (r : Piece) → PartRead t from line₀ left₀ line left r → r.count ≤ 2049
-part-few t from line₀ left₀ line left r = ⊎_elim (λ x. let n = x.none in omega arith) (λ w. let n = w.1.counted in omega arith)
+abbrev pub PartRead : List ℕ → Place → List ℕ → List ℕ → List ℕ → List ℕ → Result Piece Met → Type 0
+PartRead t from line₀ left₀ line left (Ok r) = (p : Part) × PartGot t from line₀ left₀ line left r p
+PartRead t from line₀ left₀ line left (Err m) = ItemRefused t from m
 
 -- the character at a place, by a test
 pub char_here : (x : ℕ) (t : List ℕ) (at : ℕ) → begins_with x (drop at t) ≡ true → drop at t ≡ x ∷ drop (at + 1) t
@@ -55,69 +55,66 @@ char_here x t at e =
     rw (s, add-one, eqb-true (get_or t at 0) x f)
 
 -- the end of a text where an item begins, or another character that begins none
-pub begins_wrong : (b : Before) (o : List Before) (l : List ℕ) → leb (first_digit l) 9 ≡ false → begins_with 40 l ≡ false → scan (state (begin b) o) l ≡ stuck 22 l
+pub begins_wrong : (b : Before) (o : List Before) (l : List ℕ) → first_digit l ≡ None → begins_with 40 l ≡ false → scan (state (begin b) o) l ≡ stuck 22 l
 unfolding scan first_digit begins_with
 begins_wrong b o [] d e = refl
 begins_wrong b o (c ∷ l) d e =
     scan-stuck (state (begin b) o) c l (begins_none b o c e (by_test (is_digit c)
-    (λ g. clash (digit-small c g) d)
+    (λ g. let f = rw g at d in absurd (cc))
     (λ g. g)))
-  where
-    digit-small : (c : ℕ) → is_digit c ≡ true → leb (cond (is_digit c) (digit c) 10) 9 ≡ true
-    digit-small c g = rw g (le-leb (c - 48) 9 (let h = leb-true c 57 (and_right (leb 48 c) _ g) in omega (arith, h)))
 
 -- the digit with which a text begins
-first-digit : (l : List ℕ) → leb (first_digit l) 9 ≡ true → (c : ℕ) × (m : List ℕ) × (l ≡ c ∷ m) × (is_digit c ≡ true) × (first_digit l ≡ digit c)
+first-digit : (l : List ℕ) {d : ℕ} → first_digit l ≡ Some d → (c : ℕ) × (m : List ℕ) × (l ≡ c ∷ m) × (is_digit c ≡ true) × (d ≡ digit c)
 unfolding first_digit
-first-digit [] e = absurd (true≢false (sym e))
-first-digit (c ∷ l) e = by_test (is_digit c) (λ g. (c, l, refl, g, rw g)) (λ g. clash (rw g at e) refl)
+first-digit [] e = absurd (cc)
+first-digit (c ∷ l) e = by_test (is_digit c) (λ g. let f = rw g at e in (c, l, refl, g, cc)) (λ g. let f = rw g at e in absurd (cc))
 
 -- a block laid at the end of the line
-block-built : (t : List ℕ) (from : Place) (line left : List ℕ) → length line ≡ 2048 → leb (first_digit (drop from.at t)) 9 ≡ true
-    → from.line + from.left + 1 ≤ 2048 → Built from ((number_at t from.at).value ∷ []) line left (block_laid t from line) left
-unfolding block_laid
-block-built t from line left long d h =
+block-built : (t : List ℕ) (from : Place) (line left : List ℕ) (d : ℕ) → length line ≡ 2048
+    → from.line + from.left + 1 ≤ 2048 → Built from ((number_at t from.at d).value ∷ []) line left (laid_from t from line (Some d)) left
+block-built t from line left d long h =
     record {
       in_line =
           let r = le-leb (from.line + from.left + 1) 2048 h in
           let w : from.line < length line = omega arith in
-          rw (d, r, add-one from.line) (take-suc-set line from.line (number_at t from.at).value w);
+          rw (r, add-one from.line) (take-suc-set line from.line (number_at t from.at d).value w);
       on_left = refl;
     }
 
-block-got : (t : List ℕ) (from : Place) (line left : List ℕ) → length line ≡ 2048 → leb (first_digit (drop from.at t)) 9 ≡ true
-    → PartGot t from line left (block_laid t from line) left (block_at t from.at) (block (number_at t from.at).value)
-unfolding block_at part_refs part_count
-block-got t from line left long d =
+block-got : (t : List ℕ) (from : Place) (line left : List ℕ) → length line ≡ 2048 → (d : ℕ) → first_digit (drop from.at t) ≡ Some d
+    → PartGot t from line left (laid_from t from line (Some d)) left (record { at = (number_at t from.at d).at; count = 1 }) (block (number_at t from.at d).value)
+unfolding part_refs part_count
+block-got t from line left long d e =
     let at = from.at in
-    let n = number_at t at in
-    let f = first-digit (drop at t) d in
+    let n = number_at t at d in
+    let f = first-digit (drop at t) e in
     let m = f.1 in
     let is : drop at t ≡ f.0 ∷ m = f.2 in
     let rest : m ≡ drop (at + 1) t = sym (drop_tail t at f.0 m is) ∙ ap (λ (k : ℕ). drop k t) (sym (add-one at)) in
     let some_left : length (drop at t) ≡ suc (length m) = ap length is in
-    let place = digits-place 511 (first_digit (drop at t)) (at + 1) (drop (at + 1) t) in
-    rw d record {
-      taken = refl;
+    let place = digits-place 511 d (at + 1) (drop (at + 1) t) in
+    record {
       further = omega arith;
       within = let a = length-drop at t in let b = length-drop (at + 1) t in omega arith;
       scanned = λ b o e.
           let few : length o ≤ 16 = omega arith in
           let step = scan_on (state (begin b) o) (state (read b (once (block (digit f.0)))) o) f.0 m (begins_block b o f.0 f.3) few in
-          let more = digits-scan (λ v. once (block v)) 511 block_grows b o few t (drop (at + 1) t) (digit f.0) (at + 1) refl in
-          ap (scan (state (begin b) o)) is ∙ step ∙ ap (scan (state (read b (once (block (digit f.0)))) o)) rest ∙ rw f.4 more;
-      ended = block-ended n.value (drop n.at t) (digits-stops 511 t (drop (at + 1) t) (first_digit (drop at t)) (at + 1) refl);
+          let more = digits-scan (λ v. once (block v)) 511 block_grows b o few t (drop (at + 1) t) d (at + 1) refl in
+          ap (scan (state (begin b) o)) is ∙ step ∙ ap (scan (state (read b (once (block (digit f.0)))) o)) rest
+          ∙ ap (λ (v : ℕ). scan (state (read b (once (block v))) o) (drop (at + 1) t)) (sym f.4) ∙ more;
+      ended = block-ended n.value (drop n.at t) (digits-stops 511 t (drop (at + 1) t) d (at + 1) refl);
       counted = refl;
-      built = block-built t from line left long d;
+      built = block-built t from line left d long;
     }
 
 pub block_read : (t : List ℕ) (from : Place) (line left : List ℕ) → length line ≡ 2048 → begins_with 40 (drop from.at t) ≡ false
     → PartRead t from line left (block_laid t from line) left (block_at t from.at)
-unfolding block_at
-block_read t from line left long e =
-    by_test (leb (first_digit (drop from.at t)) 9)
-    (λ d. inr (block (number_at t from.at).value, block-got t from line left long d))
-    (λ d. inl (rw d record { number = omega arith; none = refl; met = λ b o h. begins_wrong b o (drop from.at t) d e }))
+unfolding block_at block_laid
+block_read t from line left long e = go (first_digit (drop from.at t)) refl
+  where
+    go : (x : Option ℕ) → first_digit (drop from.at t) ≡ x → PartRead t from line left (laid_from t from line x) left (block_from t from.at x)
+    go None d = record { met = λ b o h. begins_wrong b o (drop from.at t) d e }
+    go (Some d) f = (block (number_at t from.at d).value, block-got t from line left long d f)
 
 -- A parenthesis that opens: one too many, and a note in parentheses.
 module _ (t : List ℕ) (from : Place) (e : begins_with 40 (drop from.at t) ≡ true) where
@@ -127,34 +124,27 @@ module _ (t : List ℕ) (from : Place) (e : begins_with 40 (drop from.at t) ≡ 
       ap (scan (state (begin b) o)) (char_here 40 t from.at e)
       ∙ scan_on (state (begin b) o) (state (begin nothing) (b ∷ o)) 40 (drop (from.at + 1) t) (opens b o) (omega arith)
 
-  pub deep-refused : from.depth ≡ 0 → ItemRefused t from (refused_piece 23 from.at)
+  pub deep-refused : from.depth ≡ 0 → ItemRefused t from (record { refusal = NoteParentheses; at = from.at })
   deep-refused z =
       record {
-        number = omega arith;
-        none = refl;
         met = λ b o h.
             let is = char_here 40 t from.at e in
             rw is (scan-deep (state (begin b) o) (state (begin nothing) (b ∷ o)) 40 (drop (from.at + 1) t) (opens b o) (omega arith));
       }
 
-  module _ (k : 1 ≤ from.depth) (line₀ left₀ line left : List ℕ) (r : Piece) where
-    abbrev place : Place
-    place = record { at = from.at + 1; depth = from.depth - 1; line = from.line; left = from.left }
+  module _ (k : 1 ≤ from.depth) (line₀ left₀ line left : List ℕ) where
+    abbrev pub place : Place
+    place = record from { at = from.at + 1; depth = from.depth - 1 }
 
-    inside-refused : NoteRefused t place r → ItemRefused t from (closed_at t r)
-    unfolding closed_at
-    inside-refused n =
-        let z : eqb r.number 0 ≡ false = ne_eqb r.number 0 (λ s. let p = n.number in omega arith) in
-        rw z record { number = n.number; none = n.none; met = λ b o h. opened b o h k ∙ n.met (b ∷ o) (omega arith) }
+    pub inside-refused : {m : Met} → NoteRefused t place m → ItemRefused t from m
+    inside-refused n = record { met = λ b o h. opened b o h k ∙ n.met (b ∷ o) (omega arith) }
 
-    module _ (b' : Before) (i' : Item) (n : NoteGot t place line₀ left₀ line left r b' i') where
-      inside-got : begins_with 41 (drop r.at t) ≡ true → PartGot t from line₀ left₀ line left (closed_at t r) (inside (note_with b' i'))
-      unfolding closed_at part_refs part_count
+    module _ (r : Piece) (b' : Before) (i' : Item) (n : NoteGot t place line₀ left₀ line left r b' i') where
+      inside-got : begins_with 41 (drop r.at t) ≡ true → PartGot t from line₀ left₀ line left (record { at = r.at + 1; count = r.count }) (inside (note_with b' i'))
+      unfolding part_refs part_count
       inside-got c =
-          let z : eqb r.number 0 ≡ true = eq-eqb r.number 0 n.taken in
           let w = begins_within 41 t r.at refl c in
-          rw (z, c) record {
-            taken = refl;
+          record {
             further = let f = n.further in omega arith;
             within = omega arith;
             scanned = λ b o h.
@@ -166,28 +156,22 @@ module _ (t : List ℕ) (from : Place) (e : begins_with 40 (drop from.at t) ≡ 
           }
 
       -- the text ends before the parenthesis closes
-      inside_open : begins_with 41 (drop r.at t) ≡ false → ItemRefused t from (closed_at t r)
-      unfolding closed_at scan
+      inside_open : begins_with 41 (drop r.at t) ≡ false → ItemRefused t from (malformed r.at)
+      unfolding scan
       inside_open c =
-          let z : eqb r.number 0 ≡ true = eq-eqb r.number 0 n.taken in
           let last : r.at ≡ length t = ⊎_elim (λ w. w) (λ w. clash w c) n.ends in
           let none_left : drop r.at t ≡ [] = drop_past t r.at (omega arith) in
-          rw (z, c) record {
-            number = omega arith;
-            none = refl;
-            met = λ b o h. opened b o h k ∙ n.scanned (b ∷ o) (omega arith) ∙ rw none_left;
-          }
+          record { met = λ b o h. opened b o h k ∙ n.scanned (b ∷ o) (omega arith) ∙ rw none_left }
 
-    pub inside-read : NoteRead t place line₀ left₀ line left r → PartRead t from line₀ left₀ line left (closed_at t r)
-    unfolding NoteRead
-    inside-read =
-        ⊎_elim
-        (λ n. inl (inside-refused n))
-        (λ w. by_test (begins_with 41 (drop r.at t)) (λ c. inr (inside (note_with w.0 w.1), inside-got w.0 w.1 w.2 c)) (λ c. inl (inside_open w.0 w.1 w.2 c)))
+    pub inside-read : (r : Piece) → NoteRead t place line₀ left₀ line left (Ok r) → PartRead t from line₀ left₀ line left (closed_at t r)
+    unfolding NoteRead closed_at
+    inside-read r w =
+        by_test (begins_with 41 (drop r.at t))
+        (λ c. rw c (inside (note_with w.0 w.1), inside-got r w.0 w.1 w.2 c))
+        (λ c. rw c (inside_open r w.0 w.1 w.2 c))
 
 -- The count that may follow a part.
 record CountGot (t : List ℕ) (at : ℕ) (p : Part) (c : Counted) (i : Item) : Type 0 where
-  pub none : c.number ≡ 0
   pub from : at ≤ c.at
   pub within : c.at ≤ length t
   pub scanned : (b : Before) (o : List Before) → length o ≤ 16 → scan (state (read b (once p)) o) (drop at t) ≡ scan (state (read b i) o) (drop c.at t)
@@ -196,32 +180,32 @@ record CountGot (t : List ℕ) (at : ℕ) (p : Part) (c : Counted) (i : Item) : 
   pub counted : item_count i ≡ c.times * part_count p
   pub refs : item_refs i ≡ repeated c.times (part_refs p)
 
-record CountRefused (t : List ℕ) (at : ℕ) (p : Part) (c : Counted) : Type 0 where
-  pub number : c.number ≡ 22
-  pub met : (b : Before) (o : List Before) → length o ≤ 16 → scan (state (read b (once p)) o) (drop at t) ≡ stuck 22 (drop c.at t)
+record CountRefused (t : List ℕ) (at : ℕ) (p : Part) (m : Met) : Type 0 where
+  pub met : (b : Before) (o : List Before) → length o ≤ 16 → scan (state (read b (once p)) o) (drop at t) ≡ stuck (number m.refusal) (drop m.at t)
+
+abbrev CountRead : List ℕ → ℕ → Part → Result Counted Met → Type 0
+CountRead t at p (Ok c) = (i : Item) × CountGot t at p c i
+CountRead t at p (Err m) = CountRefused t at p m
 
 -- the end of a text where a count begins, or another character that begins none
-star_wrong : (b : Before) (p : Part) (o : List Before) (l : List ℕ) → (0 < first_digit l → leb (first_digit l) 9 ≡ true → ⊥) → scan (state (star b p) o) l ≡ stuck 22 l
+star_wrong : (b : Before) (p : Part) (o : List Before) (l : List ℕ) → ((d : ℕ) → first_digit l ≡ Some d → 0 < d → ⊥) → scan (state (star b p) o) l ≡ stuck 22 l
 unfolding scan first_digit after_in
 star_wrong b p o [] g = refl
 star_wrong b p o (c ∷ l) g =
     scan-stuck (state (star b p) o) c l
     (by_test (is_digit c)
-    (λ d. by_test (ltb 0 (digit c))
-    (λ z. absurd (g (rw d (ltb-true 0 (digit c) z)) (rw d (le-leb (c - 48) 9 (let h = leb-true c 57 (and_right (leb 48 c) _ d) in omega (arith, h))))))
-    (λ z. rw (d, z)))
+    (λ d. by_test (ltb 0 (digit c)) (λ z. absurd (g (digit c) (rw d) (ltb-true 0 (digit c) z))) (λ z. rw (d, z)))
     (λ d. rw d))
 
 module _ (t : List ℕ) (at : ℕ) (p : Part) where
-  count-alone : at ≤ length t → (begins_with 42 (drop at t) ≡ false → Ended (once p) (drop at t)) → begins_with 42 (drop at t) ≡ false → CountGot t at p (count_at t at) (once p)
+  count-alone : at ≤ length t → Ended (once p) (drop at t) → CountGot t at p (record { times = 1; at = at }) (once p)
   unfolding item_refs item_count repeated
-  count-alone h f e =
-      rw (count_none t at e) record {
-        none = refl;
+  count-alone h f =
+      record {
         from = omega arith;
         within = h;
         scanned = λ b o few. refl;
-        ended = f e;
+        ended = f;
         some = omega arith;
         counted = omega arith;
         refs = sym (append-nil (part_refs p));
@@ -233,11 +217,10 @@ module _ (t : List ℕ) (at : ℕ) (p : Part) where
         ap (scan (state (read b (once p)) o)) (char_here 42 t at e)
         ∙ scan_on (state (read b (once p)) o) (state (star b p) o) 42 (drop (at + 1) t) (stars b p o) few
 
-    count-given : 0 < first_digit (drop (at + 1) t) → leb (first_digit (drop (at + 1) t)) 9 ≡ true
-        → CountGot t at p (count_at t at) (times p (digits_from 2048 (first_digit (drop (at + 1) t)) (at + 2) (drop (at + 2) t)).value)
+    count-given : (v : ℕ) → first_digit (drop (at + 1) t) ≡ Some v → 0 < v → let n = digits_from 2048 v (at + 2) (drop (at + 2) t) in
+        CountGot t at p (record { times = n.value; at = n.at }) (times p n.value)
     unfolding item_refs item_count
-    count-given some-digit d =
-        let v = first_digit (drop (at + 1) t) in
+    count-given v d some-digit =
         let n = digits_from 2048 v (at + 2) (drop (at + 2) t) in
         let f = first-digit (drop (at + 1) t) d in
         let m = f.1 in
@@ -248,42 +231,42 @@ module _ (t : List ℕ) (at : ℕ) (p : Part) where
         let a = length-drop (at + 1) t in
         let b = length-drop (at + 2) t in
         let place = digits-place 2048 v (at + 2) (drop (at + 2) t) in
-        rw (count-number t at e v refl some-digit (leb-true v 9 d)) record {
-          none = refl;
+        record {
           from = omega arith;
           within = omega arith;
           scanned = λ b o few.
               let step = scan_on (state (star b p) o) (state (read b (times p (digit f.0))) o) f.0 m (counts b p o f.0 f.3 (let s = f.4 in omega (arith, s))) few in
-              let more = digits-scan (times p) 2048 (count_grows p) b o few t (drop (at + 2) t) (digit f.0) (at + 2) refl in
-              starred_on b o few ∙ ap (scan (state (star b p) o)) is ∙ step ∙ ap (scan (state (read b (times p (digit f.0))) o)) rest ∙ rw f.4 more;
+              let more = digits-scan (times p) 2048 (count_grows p) b o few t (drop (at + 2) t) v (at + 2) refl in
+              starred_on b o few ∙ ap (scan (state (star b p) o)) is ∙ step ∙ ap (scan (state (read b (times p (digit f.0))) o)) rest
+              ∙ ap (λ (k : ℕ). scan (state (read b (times p k)) o) (drop (at + 2) t)) (sym f.4) ∙ more;
           ended = times-ended p n.value (drop n.at t) (digits-stops 2048 t (drop (at + 2) t) v (at + 2) refl);
           some = digits-some 2048 v (at + 2) (drop (at + 2) t) some-digit;
           counted = refl;
           refs = refl;
         }
 
-    count-missing : (0 < first_digit (drop (at + 1) t) → leb (first_digit (drop (at + 1) t)) 9 ≡ true → ⊥) → CountRefused t at p (count_at t at)
-    count-missing f =
-        rw (count_wrong t at e (first_digit (drop (at + 1) t)) refl (λ h k. f h (le-leb (first_digit (drop (at + 1) t)) 9 k)))
-        record { number = refl; met = λ b o few. starred_on b o few ∙ star_wrong b p o (drop (at + 1) t) f }
+    count-missing : ((d : ℕ) → first_digit (drop (at + 1) t) ≡ Some d → 0 < d → ⊥) → CountRefused t at p (malformed (at + 1))
+    count-missing f = record { met = λ b o few. starred_on b o few ∙ star_wrong b p o (drop (at + 1) t) f }
 
-    count-starred : CountRefused t at p (count_at t at) ⊎ ((i : Item) × CountGot t at p (count_at t at) i)
-    count-starred =
-        by_test (ltb 0 (first_digit (drop (at + 1) t)))
-        (λ z. by_test (leb (first_digit (drop (at + 1) t)) 9)
-        (λ d. inr (times p _, count-given (ltb-true 0 _ z) d))
-        (λ d. inl (count-missing (λ h k. clash k d))))
-        (λ z. inl (count-missing (λ h k. clash (lt-ltb 0 _ h) z)))
+    count-starred : (x : Option ℕ) → first_digit (drop (at + 1) t) ≡ x → CountRead t at p (count_begun t at x)
+    count-starred None d = count-missing (λ v e h. cc)
+    count-starred (Some v) d =
+        by_test (ltb 0 v)
+        (λ z. rw z (times p _, count-given v d (ltb-true 0 v z)))
+        (λ z. rw z (count-missing (λ w e h. let same : v ≡ w = cc in let none = ltb-false 0 v z in omega arith)))
 
-  count-read : at ≤ length t → (begins_with 42 (drop at t) ≡ false → Ended (once p) (drop at t)) → CountRefused t at p (count_at t at) ⊎ ((i : Item) × CountGot t at p (count_at t at) i)
-  count-read h f = by_test (begins_with 42 (drop at t)) (λ e. count-starred e) (λ e. inr (once p, count-alone h f e))
+  count-read : at ≤ length t → (begins_with 42 (drop at t) ≡ false → Ended (once p) (drop at t)) → CountRead t at p (count_at t at)
+  unfolding count_at
+  count-read h f =
+      by_test (begins_with 42 (drop at t))
+      (λ e. rw e (count-starred e (first_digit (drop (at + 1) t)) refl))
+      (λ e. rw e (once p, count-alone h (f e)))
 
 -- A part and its count, repeated at the end of the line.
-module _ (t : List ℕ) (from : Place) (line₀ left₀ line left : List ℕ) (part : Piece) (long : length line ≡ 2048) where
-  module _ (p : Part) (g : PartGot t from line₀ left₀ line left part p) (i : Item) (q : CountGot t part.at p (count_at t part.at) i) where
-    repeated-built : from.line + from.left + item_count i ≤ 2048 → Built from (item_refs i) line₀ left₀ (counted_line t part from line) left
+module _ (t : List ℕ) (from : Place) (line₀ left₀ line left : List ℕ) (part : Piece) (long : length line ≡ 2048) (p : Part) (g : PartGot t from line₀ left₀ line left part p) where
+  module _ (c : Counted) (i : Item) (q : CountGot t part.at p c i) where
+    repeated-built : from.line + from.left + item_count i ≤ 2048 → Built from (item_refs i) line₀ left₀ (line_by part from line (Ok c)) left
     repeated-built f =
-        let c = count_at t part.at in
         let most : part_count p ≤ part_count p * c.times = le-mul_of_pos_right (part_count p) q.some in
         let turned = mul_comm (part_count p) c.times in
         let all = q.counted in
@@ -294,18 +277,16 @@ module _ (t : List ℕ) (from : Place) (line₀ left₀ line left : List ℕ) (p
         let fits : from.line + length (part_refs p) ≤ length line = omega arith in
         let front = ends_front from.line line₀ (part_refs p) line fits u.in_line in
         let own : take part.count (drop from.line line) ≡ part_refs p = rw (n, ← is) (ends-refs from.line line₀ (part_refs p) line fits u.in_line) in
-        let room : from.line + from.left + part.count * c.times ≤ 2048 = rw n (omega arith) in
+        let fits : from.line + from.left + part.count * c.times ≤ 2048 = rw n (omega arith) in
         let refs : repeated c.times (take part.count (drop from.line line)) ≡ item_refs i = rw own (sym q.refs) in
         record {
-          in_line = rw (line_times t part g.taken c refl from line q.none room, refs) (ends-laid from.line line₀ (item_refs i) line _ (omega arith) front);
+          in_line = rw (room from (part.count * c.times) fits, refs) (ends-laid from.line line₀ (item_refs i) line _ (omega arith) front);
           on_left = u.on_left;
         }
 
-    counted-got : ItemGot t from line₀ left₀ (counted_line t part from line) left (counted_at t part) i
+    counted-got : ItemGot t from line₀ left₀ (line_by part from line (Ok c)) left (record { at = c.at; count = capped (part.count * c.times) }) i
     counted-got =
-        let c = count_at t part.at in
-        rw (counted-times t part g.taken c refl q.none) record {
-          taken = refl;
+        record {
           further = let a = g.further in let b = q.from in omega arith;
           within = q.within;
           scanned = λ b o h. g.scanned b o h ∙ q.scanned b o (omega arith);
@@ -314,19 +295,14 @@ module _ (t : List ℕ) (from : Place) (line₀ left₀ line left : List ℕ) (p
           built = repeated-built;
         }
 
-  count-refused : (p : Part) → PartGot t from line₀ left₀ line left part p → CountRefused t part.at p (count_at t part.at) → ItemRefused t from (counted_at t part)
-  count-refused p g q =
-      let c = count_at t part.at in
-      rw (counted_wrong t part g.taken c refl (λ z. let n = q.number in omega arith), q.number)
-      record { number = omega arith; none = refl; met = λ b o h. g.scanned b o h ∙ q.met b o (omega arith) }
+  pub counted-read : ItemRead t from line₀ left₀ (counted_line t part from line) left (counted_at t part)
+  unfolding ItemRead counted_line counted_at
+  counted-read = go (count_at t part.at) (count-read t part.at p g.within g.ended)
+    where
+      go : (x : Result Counted Met) → CountRead t part.at p x → ItemRead t from line₀ left₀ (line_by part from line x) left (counted_by part x)
+      go (Ok c) w = (w.0, counted-got c w.0 w.1)
+      go (Err m) w = record { met = λ b o h. g.scanned b o h ∙ w.met b o (omega arith) }
 
-  part-refused : ItemRefused t from part → ItemRefused t from (counted_at t part)
-  part-refused r = rw (counted-refused t part (λ z. let n = r.number in omega arith)) r
-
-  pub counted-read : PartRead t from line₀ left₀ line left part → ItemRead t from line₀ left₀ (counted_line t part from line) left (counted_at t part)
-  unfolding ItemRead
-  counted-read =
-      ⊎_elim
-      (λ r. inl (part-refused r))
-      (λ w. ⊎_elim (λ q. inl (count-refused w.0 w.1 q)) (λ v. inr (v.0, counted-got w.0 w.1 v.0 v.1))
-      (count-read t part.at w.0 w.1.within w.1.ended))
+-- a part's count is at most 2049
+pub part-few : (t : List ℕ) (from : Place) (line₀ left₀ line left : List ℕ) (r : Piece) (p : Part) → PartGot t from line₀ left₀ line left r p → r.count ≤ 2049
+part-few t from line₀ left₀ line left r p g = let n = g.counted in omega arith

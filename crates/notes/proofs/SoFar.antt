@@ -1,27 +1,26 @@
 -- A note so far: what has been read before its next item, and what is built of it. Assumes nothing.
 use mathlib.Core.Path.{◌≡◌, refl, sym, ap, ◌∙◌}
-use mathlib.Core.Bool.{Bool, true, false, true≢false}
+use mathlib.Core.Bool.{true}
 use mathlib.Core.List.{List, [], ◌++◌, append-nil}
 use mathlib.Core.Logic.{◌⊎◌}
 use mathlib.Core.Option.{Option, none, some}
-use Prim.Native.Nat.{ℕ, ◌+◌, ◌-◌, ◌≤◌, ◌<◌}
+use Prim.Native.Nat.{ℕ, ◌+◌, ◌-◌, ◌≤◌}
 use native.Mathlib.Omega.{arith}
 use lib.ListN.{length, take, drop}
 use Rattle.grammar.specs.Note.{Item, Side, Note, in_turn, item_refs, side_refs, note_refs, item_count, side_count, note_count}
-use Rattle.grammar.specs.Reading.{Before, nothing, side_with, mixed_with, note_with, begin, read, state, stuck, scan}
+use Rattle.grammar.specs.Reading.{Before, nothing, side_with, mixed_with, note_with, begin, state, scan}
 use Rattle.grammar.proofs.Counts.{item_count_is, side_count_is, note_count_is}
 use Rattle.pieces.specs.Pieces.{begins_with}
-use Rattle.pieces.specs.declared.Joint.{Joint}
+use Rattle.pieces.specs.declared.Met.{Met}
 use Rattle.mixing.specs.declared.Place.{Place}
 use Rattle.mixing.specs.Room.{capped}
 use Rattle.building.specs.declared.Piece.{Piece}
-use Rattle.building.specs.Building.{refused_piece}
 use Rattle.sides.specs.declared.Sides.{Sides}
-use Rattle.sides.specs.Sides.{sides_after, side_mixed, taken_back}
+use Rattle.sides.specs.Sides.{side_mixed, taken_back}
 use Rattle.notes.specs.Readers.{ItemGot, ItemRefused, NoteGot, NoteRefused}
-use Rattle.sides.proofs.Laws.{side_begun, side_fits, back_fits}
+use Rattle.sides.proofs.Laws.{side_fits, back_fits}
 use Rattle.notes.proofs.Lines.{Ends, ends_front, ends-refs, ends_more, ends-laid, Holds, holds-refs, holds_rest, holds-laid, cap_few}
-use Rattle.notes.proofs.Joints.{with_item, with_side, Follows, item_next, side_next, end_next, wrong_next}
+use Rattle.notes.proofs.Joints.{with_item, with_side, GoesOn, Wrong}
 
 -- The items and the sides before the next item, which may be none.
 abbrev items_refs : Option Side → List ℕ
@@ -68,10 +67,6 @@ unfolding note_count
 note-count none s = omega arith
 note-count (some n) s = refl
 
-pub mixed-few : (complete : Bool) (s : Sides) → s.mixed ≤ 2049 → (sides_after complete s).mixed ≤ 2049
-mixed-few true s h = omega arith
-mixed-few false s h = h
-
 -- Reading has come to the place `at`, before an item; the counts of the side and of the sides before it; and both are built, if there is room.
 pub record SoFar (t : List ℕ) (from : Place) (line₀ left₀ line left : List ℕ) (at side mixed : ℕ) (b : Before) : Type 0 where
   pub begun : from.at ≤ at
@@ -98,8 +93,8 @@ module _ (t : List ℕ) (from : Place) (line₀ left₀ line left : List ℕ) (a
   abbrev pub next_place : Place
   next_place = record { at = at; depth = from.depth; line = capped (from.line + side); left = capped (from.left + mixed) }
 
-  pub item_refused : (r : Piece) → ItemRefused t next_place r → NoteRefused t from r
-  item_refused r x = record { number = x.number; none = x.none; met = λ o e. s.scanned o e ∙ x.met b o e }
+  pub item_refused : {m : Met} → ItemRefused t next_place m → NoteRefused t from m
+  item_refused x = record { met = λ o e. s.scanned o e ∙ x.met b o e }
 
   module _ (line₁ left₁ : List ℕ) (long : length line₁ ≡ 2048) (wide : length left₁ ≡ 2048) (r : Piece) (i : Item) (x : ItemGot t next_place line left line₁ left₁ r i) where
     abbrev all : ℕ
@@ -141,13 +136,11 @@ module _ (t : List ℕ) (from : Place) (line₀ left₀ line left : List ℕ) (a
         omega arith
 
     -- another item of the side
-    pub item_follows : (to : ℕ) → r.at < to
-        → ((b : Before) (o : List Before) → length o ≤ 16 → scan (state (read b i) o) (drop r.at t) ≡ scan (state (begin (with_item b i)) o) (drop to t))
-        → SoFar t from line₀ left₀ line₁ (side_mixed false line₁ from sides left₁) to sides.side mixed (with_item b i)
-    item_follows to h on =
-        rw (side_begun line₁ from sides left₁) record {
-          begun = let p = s.begun in let q = x.further in omega arith;
-          scanned = λ o e. s.scanned o e ∙ x.scanned b o e ∙ on b o (omega arith);
+    pub item_follows : {to : ℕ} → GoesOn t r.at i with_item to → SoFar t from line₀ left₀ line₁ left₁ to sides.side mixed (with_item b i)
+    item_follows g =
+        record {
+          begun = let p = s.begun in let q = x.further in let n = g.on in omega arith;
+          scanned = λ o e. s.scanned o e ∙ x.scanned b o e ∙ g.scanned b o (omega arith);
           side_is = side-is;
           mixed_is = s.mixed_is;
           built = λ f. let d = side-count b.items i in item_built (omega arith);
@@ -155,7 +148,7 @@ module _ (t : List ℕ) (from : Place) (line₀ left₀ line left : List ℕ) (a
 
     -- the side is complete
     complete_built : from.line + from.left + note_count (note_with b i) ≤ 2048
-        → Ends from.line line₀ [] line₁ × Holds from.left left₀ (note_refs (note_with b i)) (side_mixed true line₁ from sides left₁)
+        → Ends from.line line₀ [] line₁ × Holds from.left left₀ (note_refs (note_with b i)) (side_mixed line₁ from sides left₁)
     complete_built f =
         let d = side-count b.items i in
         let n = note-count b.sides (side_with b.items i) in
@@ -182,13 +175,12 @@ module _ (t : List ℕ) (from : Place) (line₀ left₀ line left : List ℕ) (a
         )
 
     -- another side
-    pub side_follows : (to : ℕ) → r.at < to
-        → ((b : Before) (o : List Before) → length o ≤ 16 → scan (state (read b i) o) (drop r.at t) ≡ scan (state (begin (with_side b i)) o) (drop to t))
-        → SoFar t from line₀ left₀ line₁ (side_mixed true line₁ from sides left₁) to 0 (capped (mixed + sides.side)) (with_side b i)
-    side_follows to h on =
+    pub side_follows : {to : ℕ} → GoesOn t r.at i with_side to
+        → SoFar t from line₀ left₀ line₁ (side_mixed line₁ from sides left₁) to 0 (capped (mixed + sides.side)) (with_side b i)
+    side_follows g =
         record {
-          begun = let p = s.begun in let q = x.further in omega arith;
-          scanned = λ o e. s.scanned o e ∙ x.scanned b o e ∙ on b o (omega arith);
+          begun = let p = s.begun in let q = x.further in let n = g.on in omega arith;
+          scanned = λ o e. s.scanned o e ∙ x.scanned b o e ∙ g.scanned b o (omega arith);
           side_is = refl;
           mixed_is = mixed-is;
           built = λ f. complete_built (omega arith);
@@ -196,18 +188,17 @@ module _ (t : List ℕ) (from : Place) (line₀ left₀ line left : List ℕ) (a
 
     -- the end of the note
     pub note-ends : (r.at ≡ length t) ⊎ (begins_with 41 (drop r.at t) ≡ true)
-        → NoteGot t from line₀ left₀ (taken_back (side_mixed true line₁ from sides left₁) from (capped (mixed + sides.side)) line₁) (side_mixed true line₁ from sides left₁)
-        (record { number = 0; at = r.at; count = capped (mixed + sides.side) }) b i
+        → NoteGot t from line₀ left₀ (taken_back (side_mixed line₁ from sides left₁) from (capped (mixed + sides.side)) line₁) (side_mixed line₁ from sides left₁)
+        (record { at = r.at; count = capped (mixed + sides.side) }) b i
     note-ends e =
         record {
-          taken = refl;
           further = let p = s.begun in let q = x.further in omega arith;
           within = x.within;
           scanned = λ o h. s.scanned o h ∙ x.scanned b o h;
           ends = e;
           counted = mixed-is;
           built = λ f.
-              let left₂ = side_mixed true line₁ from sides left₁ in
+              let left₂ = side_mixed line₁ from sides left₁ in
               let refs = note_refs (note_with b i) in
               let u = complete_built f in
               let w = note_count_is (note_with b i) in
@@ -222,34 +213,6 @@ module _ (t : List ℕ) (from : Place) (line₀ left₀ line left : List ℕ) (a
               };
         }
 
-    pub joint_refused : (to : ℕ) → ((b : Before) (o : List Before) → length o ≤ 16 → scan (state (read b i) o) (drop r.at t) ≡ stuck 22 (drop to t)) → NoteRefused t from (refused_piece 22 to)
-    joint_refused to off = record { number = omega arith; none = refl; met = λ o e. s.scanned o e ∙ x.scanned b o e ∙ off b o (omega arith) }
-
-    -- what follows the item decides how the note goes on
-    pub turn_on : (j : Joint) → Follows t r.at i j → j.more ≡ true → (at < j.at) × (j.at ≤ length t)
-    turn_on _ (item_next to h k on) m = let q = x.further in (omega arith, k)
-    turn_on _ (side_next to h k on) m = let q = x.further in (omega arith, k)
-    turn_on _ (end_next e) m = absurd (true≢false (sym m))
-    turn_on _ (wrong_next to off) m = absurd (true≢false (sym m))
-
-    pub turn_again : (j : Joint) → Follows t r.at i j → j.more ≡ true
-        → (b : Before) × SoFar t from line₀ left₀ line₁ (side_mixed j.complete line₁ from sides left₁) j.at (sides_after j.complete sides).side (sides_after j.complete sides).mixed b
-    turn_again _ (item_next to h k on) m = (with_item b i, item_follows to h on)
-    turn_again _ (side_next to h k on) m = (with_side b i, side_follows to h on)
-    turn_again _ (end_next e) m = absurd (true≢false (sym m))
-    turn_again _ (wrong_next to off) m = absurd (true≢false (sym m))
-
-    pub turn_refused : (j : Joint) → Follows t r.at i j → (j.number ≡ 0 → ⊥) → NoteRefused t from (refused_piece j.number j.at)
-    turn_refused _ (item_next to h k on) z = absurd (z refl)
-    turn_refused _ (side_next to h k on) z = absurd (z refl)
-    turn_refused _ (end_next e) z = absurd (z refl)
-    turn_refused _ (wrong_next to off) z = joint_refused to off
-
-    pub turn_ends : (j : Joint) → Follows t r.at i j → j.number ≡ 0 → j.more ≡ false
-        → let left₂ = side_mixed j.complete line₁ from sides left₁ in
-        let n = (sides_after j.complete sides).mixed in
-        NoteGot t from line₀ left₀ (taken_back left₂ from n line₁) left₂ (record { number = 0; at = j.at; count = n }) b i
-    turn_ends _ (item_next to h k on) z m = absurd (true≢false m)
-    turn_ends _ (side_next to h k on) z m = absurd (true≢false m)
-    turn_ends _ (end_next e) z m = note-ends e
-    turn_ends _ (wrong_next to off) z m = absurd (omega arith)
+    -- nothing that can follow
+    pub joint_refused : {m : Met} → Wrong t r.at i m → NoteRefused t from m
+    joint_refused w = record { met = λ o e. s.scanned o e ∙ x.scanned b o e ∙ w.met b o (omega arith) }

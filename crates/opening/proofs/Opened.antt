@@ -1,5 +1,5 @@
 -- The desk before round 1 is right for the state before round 1. Assumes nothing.
-use mathlib.Core.Path.{◌≡◌, refl, sym, ap, ◌∙◌, subst}
+use mathlib.Core.Path.{◌≡◌, refl, sym, ◌∙◌, subst}
 use mathlib.Core.Logic.{◌≢◌}
 use mathlib.Core.Bool.{Bool, true, false}
 use mathlib.Core.List.{List}
@@ -16,102 +16,87 @@ use Rattle.model.specs.Rules.{distance}
 use Rattle.model.proofs.Carried.{rising_up, sound-rising, start-load, start-holds, start_found, start-within, start-read}
 use Rattle.model.proofs.Distances.{distance_from}
 use Rattle.lookup.specs.Lookup.{ref_disks, chain_from}
-use Rattle.lookup.specs.Desk.{HELD, row, nexts, laters, helds, looks, of_disk}
+use Rattle.lookup.specs.declared.Desk.{Desk}
+use Rattle.lookup.specs.declared.Steps.{Steps}
 use Rattle.lookup.proofs.Laws.{chain_to, chain_hit, chain_distance}
 use Rattle.lookup.proofs.Right.{Listed, Pointer, Right, Forward}
 use Rattle.lookup.proofs.StaysRight.{pointer_kept, reading, right_read}
 use Rattle.indexing.specs.Indexing.{firsts, opened}
 use Rattle.indexing.proofs.Laws.{firsts-length, firsts_at, chain_head}
 use Rattle.moving.specs.Moving.{Ahead, move_from, moved_on}
-use Rattle.moving.proofs.PointerRight.{Moved, moved_row, moved_laters, moved_looks, moved_rows, moved_moved, moved_stops, forward_ahead}
+use Rattle.moving.proofs.PointerRight.{Moved, moved_moved, moved_stops, forward_ahead}
 use Rattle.opening.specs.Opening.{moved_all, passed_all, carried_desk, no_desk}
 use Rattle.playing.specs.declared.Buffers.{Buffers}
 
 -- Nothing is read, and the pointers of the disks below n have moved on: every disk's pointer is right as far as it has come, and those stop at a
 -- missing block or at the end.
-record Pointing (j : Job) (marks : List Bool) (n : ℕ) (desk : List (List ℕ)) : Type 0 where
-  listed : (d : ℕ) → d < disk_count j → Listed j marks d (helds desk) (load j marks d)
-  pointer : (d : ℕ) → d < disk_count j → Pointer j marks 0 d (get_or (looks desk) d 0) (laters desk)
-  stops : (d : ℕ) → d < n → get_or (looks desk) d 0 < ref_count j → is_resident marks (ref_at j (get_or (looks desk) d 0)) ≡ false
-  distances : (b : ℕ) → b < 512 → get_or (nexts desk) b 0 ≡ distance j.refs 0 b
-  rows : length desk ≡ 4
-  long_nexts : length (nexts desk) ≡ 512
-  long_laters : length (laters desk) ≡ 512
-  long_helds : length (helds desk) ≡ 512
-  long_looks : length (looks desk) ≡ 512
+record Pointing (j : Job) (marks : List Bool) (n : ℕ) (desk : Desk) : Type 0 where
+  listed : (d : ℕ) → d < disk_count j → Listed j marks d desk.held (load j marks d)
+  pointer : (d : ℕ) → d < disk_count j → Pointer j marks 0 d (get_or desk.look d 0) desk.later
+  stops : (d : ℕ) → d < n → get_or desk.look d 0 < ref_count j → is_resident marks (ref_at j (get_or desk.look d 0)) ≡ false
+  distances : (b : ℕ) → b < 512 → get_or desk.next b 0 ≡ distance j.refs 0 b
+  long_nexts : length desk.next ≡ 512
+  long_laters : length desk.later ≡ 512
+  long_helds : length desk.held ≡ 512
+  long_looks : length desk.look ≡ 512
 
-module _ (j : Job) (sound : Sound j) (marks : List Bool) {steps : List (List ℕ)} (forward : Forward j steps) where
+module _ (j : Job) (sound : Sound j) (marks : List Bool) {steps : Steps} (forward : Forward j steps) where
   abbrev few : length j.refs ≤ 2048
   few = sound.few_refs
 
-  abbrev ahead : Ahead (ref_count j) (of_disk steps)
+  abbrev ahead : Ahead (ref_count j) steps.of_disk
   ahead = forward_ahead forward
 
-  module _ (d : ℕ) (desk : List (List ℕ)) (l : d < disk_count j) (p : Pointing j marks d desk) where
-    abbrev after : List (List ℕ)
-    after = moved_on j.refs marks steps d desk
+  module _ (d : ℕ) (desk : Desk) (l : d < disk_count j) (p : Pointing j marks d desk) where
+    -- where the pointer stops, and the distances from it
+    abbrev end : ℕ × List ℕ
+    end = move_from j.refs marks steps 2048 (get_or desk.look d 0) desk.later
 
-    -- where the pointer stops
-    abbrev end : ℕ
-    end = (move_from j.refs marks steps 2048 (get_or (looks desk) d 0) desk).0
-
-    new_looks : looks after ≡ set (looks desk) d end
-    new_looks = moved_looks j.refs marks steps ahead d desk p.rows few
-
-    own_look : get_or (looks after) d 0 ≡ end
+    own_look : get_or (set desk.look d end.0) d 0 ≡ end.0
     own_look =
         let long = p.long_looks in
         let eight = sound.few_disks in
-        ap (λ (x : List ℕ). get_or x d 0) new_looks ∙ get_or-set_same (looks desk) d end 0 (omega (arith, long, eight, l))
+        get_or-set_same desk.look d end.0 0 (omega (arith, long, eight, l))
 
-    other_look : (e : ℕ) → e ≢ d → get_or (looks after) e 0 ≡ get_or (looks desk) e 0
-    other_look e n = ap (λ (x : List ℕ). get_or x e 0) new_looks ∙ get_or-set_other (looks desk) d e end 0 n
+    other_look : (e : ℕ) → e ≢ d → get_or (set desk.look d end.0) e 0 ≡ get_or desk.look e 0
+    other_look e n = get_or-set_other desk.look d e end.0 0 n
 
     -- its distances, and those of other disks' blocks as they were
-    moved : Moved j.refs marks steps (laters desk) (get_or (looks desk) d 0) end (laters after)
-    moved =
-        subst (Moved j.refs marks steps (laters desk) (get_or (looks desk) d 0) end) (sym (moved_laters j.refs marks steps ahead d desk p.rows few))
-        (moved_moved j.refs marks steps ahead d desk p.rows few)
+    moved : Moved j.refs marks steps desk.later (get_or desk.look d 0) end.0 end.1
+    moved = moved_moved j.refs marks steps ahead d desk few
 
-    goes : Pointer j marks 0 d end (laters after) × ((b : ℕ) → (b < block_count j → disk_of j b ≢ d) → get_or (laters after) b 0 ≡ get_or (laters desk) b 0)
+    goes : Pointer j marks 0 d end.0 end.1 × ((b : ℕ) → (b < block_count j → disk_of j b ≢ d) → get_or end.1 b 0 ≡ get_or desk.later b 0)
     goes = moved.right j 0 d refl sound forward (let long = p.long_laters in let blocks = sound.few_blocks in omega (arith, long, blocks)) (p.pointer d l)
 
-    same_row : (q : ℕ) → q ≢ 1 → q ≢ 3 → row after q ≡ row desk q
-    same_row q m n = moved_row j.refs marks steps ahead d desk p.rows few q m n
-
     -- one pointer more
-    pointing_on : Pointing j marks (suc d) after
-    pointing_on =
-        let held = same_row 2 (λ e. omega (arith, e)) (λ e. omega (arith, e)) in
-        let next = same_row 0 (λ e. omega (arith, e)) (λ e. omega (arith, e)) in
-        record {
-          listed = rw held p.listed;
-          pointer = λ e k. by_test (eqb e d)
-              (λ y. let same = eqb-true e d y in rw (same, own_look) goes.0)
-              (λ n. let other = eqb-false e d n in
-              rw (other_look e other) (pointer_kept (p.pointer e k) (p.pointer e k).least (λ b known on. goes.1 b (λ _ q. other (sym on ∙ q)))));
-          stops = λ e k. by_test (eqb e d)
-              (λ y. let same = eqb-true e d y in rw (same, own_look) (moved_stops j.refs marks steps ahead d desk p.rows few))
-              (λ n. let other = eqb-false e d n in rw (other_look e other) (p.stops e (lib.Arith.lt_of_le-ne (omega arith) other)));
-          distances = λ b k. ap (λ (x : List ℕ). get_or x b 0) next ∙ p.distances b k;
-          rows = moved_rows j.refs marks steps ahead d desk p.rows few;
-          long_nexts = ap length next ∙ p.long_nexts;
-          long_laters = moved.long ∙ p.long_laters;
-          long_helds = ap length held ∙ p.long_helds;
-          long_looks = ap length new_looks ∙ length-set (looks desk) d end ∙ p.long_looks;
-        }
+    pointing_on : Pointing j marks (suc d) (moved_on j.refs marks steps d desk)
+    unfolding moved_on
+    pointing_on = record {
+      listed = p.listed;
+      pointer = λ e k. by_test (eqb e d)
+          (λ y. let same = eqb-true e d y in rw (same, own_look) goes.0)
+          (λ n. let other = eqb-false e d n in
+          rw (other_look e other) (pointer_kept (p.pointer e k) (p.pointer e k).least (λ b known on. goes.1 b (λ _ q. other (sym on ∙ q)))));
+      stops = λ e k. by_test (eqb e d)
+          (λ y. let same = eqb-true e d y in rw (same, own_look) (moved_stops j.refs marks steps ahead d desk few))
+          (λ n. let other = eqb-false e d n in rw (other_look e other) (p.stops e (lib.Arith.lt_of_le-ne (omega arith) other)));
+      distances = p.distances;
+      long_nexts = p.long_nexts;
+      long_laters = moved.long ∙ p.long_laters;
+      long_helds = p.long_helds;
+      long_looks = length-set desk.look d end.0 ∙ p.long_looks;
+    }
 
   -- all of them
-  pointing_all : (d : ℕ) (desk : List (List ℕ)) → d ≤ disk_count j → Pointing j marks 0 desk → Pointing j marks d (moved_all j.refs marks steps d desk)
+  pointing_all : (d : ℕ) (desk : Desk) → d ≤ disk_count j → Pointing j marks 0 desk → Pointing j marks d (moved_all j.refs marks steps d desk)
   unfolding moved_all
   pointing_all zero desk l p = p
   pointing_all (suc d) desk l p = pointing_on d (moved_all j.refs marks steps d desk) (omega arith) (pointing_all d desk (omega arith) p)
 
-  pointing_right : (desk : List (List ℕ)) → Pointing j marks (disk_count j) desk → Right j (reading marks 0) desk
+  pointing_right : (desk : Desk) → Pointing j marks (disk_count j) desk → Right j (reading marks 0) desk
   pointing_right desk p = record {
     disks = λ d l. record { listed = p.listed d l; pointer = p.pointer d l; stops = p.stops d l };
     distances = p.distances;
-    rows = p.rows;
     long_nexts = p.long_nexts;
     long_laters = p.long_laters;
     long_helds = p.long_helds;
@@ -119,7 +104,7 @@ module _ (j : Job) (sound : Sound j) (marks : List Bool) {steps : List (List ℕ
   }
 
   -- then what can be read is read
-  passed_right : (i : ℕ) (desk : List (List ℕ)) → i ≤ ref_count j → ((k : ℕ) → k < i → is_resident marks (ref_at j k) ≡ true) → Right j (reading marks 0) desk
+  passed_right : (i : ℕ) (desk : Desk) → i ≤ ref_count j → ((k : ℕ) → k < i → is_resident marks (ref_at j k) ≡ true) → Right j (reading marks 0) desk
       → Right j (reading marks i) (passed_all j.refs steps i desk)
   unfolding passed_all
   passed_right zero desk l read right = right
@@ -161,14 +146,13 @@ module _ (j : Job) (sound : Sound j) (disks : List ℕ) (on-disk : (b : ℕ) →
   -- the desk of empty buffers, with the blocks carried in as residents
   module _ (blocks : List ℕ) (long : length blocks ≡ 512)
       (same : (d i : ℕ) → d < disk_count j → i < length (carried_on j d) → get_or blocks (d * 64 + i) 0 ≡ carried_at j d i) where
-    pointing_start : Pointing j (start j).resident 0 (set (opened disks j.refs no_desk) HELD blocks)
+    pointing_start : Pointing j (start j).resident 0 (record (opened disks j.refs no_desk) { held = blocks })
     unfolding opened
     pointing_start = record {
       listed = listed_start j sound blocks same;
       pointer = λ d l. rw (chain_head disks j.refs 512 d (let few = sound.few_disks in omega (arith, few))) (first_right (start j).resident d);
       stops = λ d l. absurd (omega (arith, l));
       distances = λ b l. firsts_at j.refs 512 0 b l;
-      rows = refl;
       long_nexts = firsts-length j.refs 512 0;
       long_laters = firsts-length j.refs 512 0;
       long_helds = long;
@@ -176,11 +160,11 @@ module _ (j : Job) (sound : Sound j) (disks : List ℕ) (on-disk : (b : ℕ) →
     }
 
     -- The desk before round 1.
-    pub right_start : {steps : List (List ℕ)} → Forward j steps → (b : Buffers) → b.resident ≡ (start j).resident → b.next ≡ (start j).next
+    pub right_start : {steps : Steps} → Forward j steps → (b : Buffers) → b.resident ≡ (start j).resident → b.next ≡ (start j).next
         → Right j (start j) (carried_desk b blocks (disk_count j) j.refs steps (opened disks j.refs no_desk))
     unfolding carried_desk
     right_start {steps} forward b marks next =
-        let first = set (opened disks j.refs no_desk) HELD blocks in
+        let first : Desk = record (opened disks j.refs no_desk) { held = blocks } in
         let moved = pointing_all j sound (start j).resident forward (disk_count j) first (omega arith) pointing_start in
         subst (λ (x : List Bool). Right j (start j) (passed_all j.refs steps b.next (moved_all j.refs x steps (disk_count j) first))) (sym marks)
         (subst (λ (i : ℕ). Right j (start j) (passed_all j.refs steps i (moved_all j.refs (start j).resident steps (disk_count j) first))) (sym next)
@@ -188,11 +172,10 @@ module _ (j : Job) (sound : Sound j) (disks : List ℕ) (on-disk : (b : ℕ) →
         (pointing_right j sound (start j).resident forward _ moved))))
       where
         -- the rounds played do not count
-        right_same : {desk : List (List ℕ)} → Right j (reading (start j).resident (start j).next) desk → Right j (start j) desk
+        right_same : {desk : Desk} → Right j (reading (start j).resident (start j).next) desk → Right j (start j) desk
         right_same h = record {
           disks = h.disks;
           distances = h.distances;
-          rows = h.rows;
           long_nexts = h.long_nexts;
           long_laters = h.long_laters;
           long_helds = h.long_helds;

@@ -1,5 +1,5 @@
 -- A job by value before round 1: what `open` lends, and that its desk and its steps are right for the state before round 1. Assumes nothing.
-use mathlib.Core.Path.{◌≡◌, refl, sym, ap, ◌∙◌, subst}
+use mathlib.Core.Path.{◌≡◌, sym, ap, ◌∙◌, subst}
 use mathlib.Core.List.{List, []}
 use Prim.Native.Nat.{ℕ, suc, ◌+◌, ◌*◌, ◌≤◌, ◌<◌}
 use native.Mathlib.Omega.{arith}
@@ -15,7 +15,8 @@ use Rattle.model.proofs.Plans.{get_d_each}
 use Rattle.model.proofs.Carried.{start-within}
 use Rattle.model.proofs.Distances.{distance_to}
 use Rattle.lookup.specs.Lookup.{ref_disks}
-use Rattle.lookup.specs.Desk.{helds, looks, of_disk}
+use Rattle.lookup.specs.declared.Desk.{Desk}
+use Rattle.lookup.specs.declared.Steps.{Steps}
 use Rattle.lookup.proofs.Laws.{ref_disks-length}
 use Rattle.lookup.proofs.Right.{Right, Forward}
 use Rattle.indexing.specs.Indexing.{firsts, opened, stepped}
@@ -26,8 +27,8 @@ use Rattle.playing.specs.declared.Buffers.{Buffers}
 use Rattle.playing.proofs.Started.{holds-start}
 use Rattle.moving.specs.Moving.{Ahead}
 use Rattle.moving.proofs.PointerRight.{forward_ahead}
-use Rattle.opening.specs.Opening.{carried_desk, no_desk, no_steps, start_steps, start_desk}
-use Rattle.opening.proofs.Sizes.{Sized, carried_sized, helds-carried}
+use Rattle.opening.specs.Opening.{moved_all, passed_all, carried_desk, no_desk, no_steps, start_steps, start_desk}
+use Rattle.opening.proofs.Sizes.{carried_within, helds-carried}
 use Rattle.opening.proofs.Opened.{right_start}
 
 -- a first place is one of the list, or its length
@@ -37,13 +38,11 @@ firsts-small l b i =
     let to = distance_to l 0 b (omega arith) in
     omega (arith, at, to)
 
--- the desk of empty buffers
-open_sized : (disks refs : List ℕ) → Sized refs (opened disks refs no_desk)
+-- the pointers of the desk of empty buffers
+first_within : (disks refs : List ℕ) → Below (suc (length refs)) (opened disks refs no_desk).look
 unfolding opened
-open_sized disks refs = record {
-  rows = refl;
-  within = subst (λ (n : ℕ). Below (suc n) (firsts (ref_disks disks refs) 512 0)) (ref_disks-length disks refs) (firsts-small (ref_disks disks refs));
-}
+first_within disks refs =
+    subst (λ (n : ℕ). Below (suc n) (firsts (ref_disks disks refs) 512 0)) (ref_disks-length disks refs) (firsts-small (ref_disks disks refs))
 
 module _ (c : Stored) (fits : Fits c) where
   abbrev pub refs : List ℕ
@@ -84,40 +83,36 @@ module _ (c : Stored) (fits : Fits c) where
   forward_start =
       let long = length-replicate {A = ℕ} 2048 0 in
       let few = fits.sound.few_refs in
-      forward_made (job_of c) c.disk no_steps refl (λ i l. on-disk (ref_at (job_of c) i) (fits.sound.to_blocks i l)) (omega (arith, long, few)) (omega (arith, long, few))
+      forward_made (job_of c) c.disk no_steps (λ i l. on-disk (ref_at (job_of c) i) (fits.sound.to_blocks i l)) (omega (arith, long, few)) (omega (arith, long, few))
 
-  ahead_start : Ahead (length refs) (of_disk (start_steps c))
+  ahead_start : Ahead (length refs) (start_steps c).of_disk
   unfolding job_of
   ahead_start = forward_ahead forward_start
 
-  -- tables of zeros, made into the desk of empty buffers and the steps
-  pub opened-from : {zeros desk : List (List ℕ)} → zeros ≡ no_desk → desk ≡ opened c.disk refs zeros → desk ≡ opened c.disk refs no_desk
-  opened-from z e = e ∙ ap (opened c.disk refs) z
+  -- what `move_all` and `pass_all` ask,
+  pub first_looks : {first : Desk} → first ≡ opened c.disk refs no_desk → Below (suc (length refs)) first.look
+  first_looks e = subst (λ (x : Desk). Below (suc (length refs)) x.look) (sym e) (first_within c.disk refs)
 
-  pub stepped_from : {zeros steps : List (List ℕ)} → zeros ≡ no_steps → steps ≡ stepped c.disk refs zeros → steps ≡ stepped c.disk refs no_steps
-  stepped_from z e = e ∙ ap (stepped c.disk refs) z
+  pub ahead-made : {steps : Steps} → steps ≡ stepped c.disk refs no_steps → Ahead (length refs) steps.of_disk
+  unfolding start_steps
+  ahead-made e = subst (λ (x : Steps). Ahead (length refs) x.of_disk) (sym e) ahead_start
 
-  -- what `carry` asks,
-  pub carry_asks : (n : ℕ) → n ≤ c.disks → {b : Buffers} {desk steps : List (List ℕ)} → b ≡ start_buffers c → desk ≡ opened c.disk refs no_desk
-      → steps ≡ stepped c.disk refs no_steps
-      → ((n ≤ 8) × (length desk ≡ 4) × Below (suc (length refs)) (looks desk) × (b.next ≤ length refs))
-      × ((length refs ≤ 2048) × Below 512 refs × Ahead (length refs) (of_disk steps))
-  unfolding job_of start_steps
-  carry_asks n l eb ed es =
-      let sized = subst (Sized refs) (sym ed) (open_sized c.disk refs) in
-      let read = ap (λ (x : Buffers). x.next) eb ∙ (holds-start c fits).read in
-      let within = start-within (job_of c) in (
-        ((let few = fits.few_disks in omega (arith, few)), sized.rows, sized.within, omega (arith, read, within)),
-        (refs-few, refs-small, subst (λ (x : List (List ℕ)). Ahead (length refs) (of_disk x)) (sym es) ahead_start),
-      )
+  pub read_within : {b : Buffers} → b ≡ start_buffers c → b.next ≤ length refs
+  unfolding job_of
+  read_within e =
+      let read = ap (λ (x : Buffers). x.next) e ∙ (holds-start c fits).read in
+      let within = start-within (job_of c) in
+      omega (arith, read, within)
 
   -- and what `open` gives
-  pub open_gives : {b : Buffers} {first desk steps : List (List ℕ)} → b ≡ start_buffers c → first ≡ opened c.disk refs no_desk → steps ≡ stepped c.disk refs no_steps
-      → desk ≡ carried_desk b c.carried c.disks refs steps first → (b ≡ start_buffers c) × (desk ≡ start_desk c) × (steps ≡ start_steps c)
-  unfolding start_desk start_steps
-  open_gives eb ef es ed = (eb, ed ∙ (λ i. carried_desk (eb i) c.carried c.disks refs (es i) (ef i)), es)
+  pub open_gives : {b : Buffers} {first moved desk : Desk} {steps : Steps} → b ≡ start_buffers c → first ≡ opened c.disk refs no_desk
+      → steps ≡ stepped c.disk refs no_steps → moved ≡ moved_all refs b.resident steps c.disks (record first { held = c.carried })
+      → desk ≡ passed_all refs steps b.next moved → (b ≡ start_buffers c) × (desk ≡ start_desk c) × (steps ≡ start_steps c)
+  unfolding start_desk start_steps carried_desk
+  open_gives {b} {first} {moved} {desk} {steps} eb ef es em ed =
+      (eb, ed ∙ ap (passed_all refs steps b.next) em ∙ (λ i. carried_desk (eb i) c.carried c.disks refs (es i) (ef i)), es)
 
-  -- The desk is right, and its sizes are kept.
+  -- The desk is right, its pointers are within the references, and its residents are the blocks carried in.
   pub desk_right : Right (job_of c) (start (job_of c)) (start_desk c)
   unfolding job_of start_desk start_steps
   desk_right =
@@ -125,10 +120,10 @@ module _ (c : Stored) (fits : Fits c) where
       (right_start (job_of c) fits.sound c.disk on-disk c.carried fits.long_carried carried_listed forward_start (start_buffers c)
       (holds-start c fits).marks (holds-start c fits).read)
 
-  pub desk_sized : Sized refs (start_desk c)
+  pub desk_within : Below (suc (length refs)) (start_desk c).look
   unfolding start_desk start_steps
-  desk_sized = carried_sized (start_buffers c) c.carried c.disks refs (start_steps c) (opened c.disk refs no_desk) refs-few ahead_start (open_sized c.disk refs)
+  desk_within = carried_within (start_buffers c) c.carried c.disks refs (start_steps c) (opened c.disk refs no_desk) refs-few ahead_start (first_within c.disk refs)
 
-  pub desk-held : helds (start_desk c) ≡ c.carried
+  pub desk-held : (start_desk c).held ≡ c.carried
   unfolding start_desk start_steps
-  desk-held = helds-carried (start_buffers c) c.carried c.disks refs (start_steps c) (opened c.disk refs no_desk) refs-few ahead_start (open_sized c.disk refs)
+  desk-held = helds-carried (start_buffers c) c.carried c.disks refs (start_steps c) (opened c.disk refs no_desk)

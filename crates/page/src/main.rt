@@ -5,11 +5,11 @@ ghost use Rattle.std.specs.Prelude.{◌≡◌, length};
 
 use std::io;
 
-// A buffer for the longest page.
-fn buffer() -> [u8; 278613]
-    ensures { 278613 ≡ length result }
+// A buffer.
+fn zeros<const N: usize>() -> [u8; N]
+    ensures { N ≡ length result }
 {
-    [0; 278613]
+    [0; N]
 }
 
 // A longer input is cut to 3,091 bytes, one more than the longest ticket, as in `plan`; what is printed is what the whole input gives (`cut_page` of
@@ -17,7 +17,8 @@ fn buffer() -> [u8; 278613]
 fn main(rt: HostRuntime) -> io::Result<()> {
     let mut ticket = [0u8; 3091];
     let n = input::read_front(&mut rt.stdin(), &mut ticket)?;
-    let mut text = buffer();
+    // the longest page
+    let mut text = zeros::<278613>();
     let m = page_text::page(&ticket[..n], &mut text);
     rt.write_all(&text[..m])
 }

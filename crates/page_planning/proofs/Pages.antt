@@ -1,14 +1,13 @@
 -- What planning of a job with a page gives, from what the parts of the call give. Assumes nothing.
 use mathlib.Core.Path.{◌≡◌, refl, sym, ap, ◌∙◌, subst}
 use mathlib.Core.List.{List, map}
-use mathlib.Core.Option.{some}
 use Prim.Native.Nat.{ℕ, ◌+◌, ◌*◌, ◌≤◌}
 use native.Mathlib.Nat.{mul-le-mul}
 use native.Mathlib.Omega.{arith}
-use lib.Dec.{ltb, eqb}
+use lib.Dec.{ltb}
+use Rattle.std.specs.Prelude.{Result, Ok, Err}
 use lib.ListN.{length, replicate, length-map, length-replicate}
-use lib.Seq.{take_all}
-use borrow.Author.Tests.{ltb-false, eqb-true, eqb-false}
+use borrow.Author.Tests.{ltb-false}
 use Rattle.bits.specs.Bits.{bytes, pack, over, laid, bytes_for, Below}
 use Rattle.bits.specs.Fields.{laid_at}
 use Rattle.bits.specs.Reading.{Answer, given, refused}
@@ -21,7 +20,7 @@ use Rattle.model.specs.Rules.{Choice, action, short, sparing}
 use Rattle.model.specs.Plans.{plan_of, schedule_of}
 use Rattle.model.specs.Sheet.{sheet_bits, sheet_of}
 use Rattle.model.specs.Page.{page_of, reasons_of}
-use Rattle.model.specs.Calls.{counts_of, short_counts, sparing_counts, Which, is_first, is_second, of_two, which_for, is_short, is_sparing, chosen, mark_for, planned_of, planned_for, plan_handed, with_page, page_for, plan_given, page_length, page_after, short_after, sparing_after, written, sheet_handed}
+use Rattle.model.specs.Calls.{counts_of, short_counts, sparing_counts, Which, is_first, is_second, of_two, which_for, is_short, is_sparing, chosen, mark_for, planned_of, planned_for, plan_handed, with_page, page_for, plan_given, page_length, page_after, short_after, sparing_after, returned, written}
 use Rattle.model.specs.Calls.{PlannedPage as PageGiven}
 use Rattle.model.proofs.Choosing.{Lawful, short_lawful, sparing_lawful}
 use Rattle.model.proofs.Page.{SmallRounds, plan_small, reasons_length, reasons_below, page_size}
@@ -36,7 +35,10 @@ use Rattle.planning.specs.Planning.{plans_of}
 use Rattle.planning.specs.declared.Plans.{Plans}
 use Rattle.printing.specs.Printing.{page_read}
 use Rattle.printing.proofs.ReadBack.{page-read}
-use Rattle.returning.specs.Returning.{planned_page_as, which_as, which_given, of_which, page_number}
+use Rattle.refusal.specs.Refusals.{refusal_of}
+use Rattle.refusal.specs.declared.Refusal.{Refusal}
+use Rattle.refusal.specs.declared.Refusal.TheVariants.{PageRoom}
+use Rattle.returning.specs.Returning.{planned_as, with_length, planned_page_as, which_as, of_which, fits}
 use Rattle.returning.specs.declared.Planned.{Planned}
 use Rattle.returning.specs.declared.PlannedPage.{PlannedPage}
 use Rattle.returning.specs.declared.Which.{Which as WhichOf}
@@ -130,9 +132,9 @@ module _ (j : Job) (sound : Sound j) (p : Plans) (q : p ≡ plans_of j) where
       go is_second = refl
 
   -- and so many lines
-  lines_are : {which : WhichOf} → which ≡ which_as (some w) → of_which which p.short.rounds p.sparing.rounds ≡ length handed_plan
+  lines_are : {which : WhichOf} → which ≡ which_as w → of_which which p.short.rounds p.sparing.rounds ≡ length handed_plan
   lines_are e =
-      ap (λ (x : WhichOf). of_which x p.short.rounds p.sparing.rounds) e ∙ two_chosen w p.short.rounds p.sparing.rounds
+      ap (λ (x : WhichOf). of_which x p.short.rounds p.sparing.rounds) e ∙ two_chosen {A = ℕ} w p.short.rounds p.sparing.rounds
       ∙ (λ i. of_two w (short_is i) (sparing_is i)) ∙ go w
     where
       go : (x : Which) → of_two x (charged j (schedule_of (rule_of Short) j)) (charged j (schedule_of (rule_of Sparing) j)) ≡ length (plan_of (rule_of (rule_for x)) j)
@@ -140,7 +142,7 @@ module _ (j : Job) (sound : Sound j) (p : Plans) (q : p ≡ plans_of j) where
       go is_second = rounds_are j sound Sparing
 
   -- as the code counts them, with the disks of the job by value
-  pub counted_are : {which : WhichOf} {rounds' disks : ℕ} → which ≡ which_as (some w) → rounds' ≡ of_which which p.short.rounds p.sparing.rounds
+  pub counted_are : {which : WhichOf} {rounds' disks : ℕ} → which ≡ which_as w → rounds' ≡ of_which which p.short.rounds p.sparing.rounds
       → disk_count j ≡ disks → rounds' * disks ≡ lines
   counted_are ew er ed = λ i. (er ∙ lines_are ew) i * sym ed i
 
@@ -148,15 +150,13 @@ module _ (j : Job) (sound : Sound j) (p : Plans) (q : p ≡ plans_of j) where
   lines_few = few_lines j sound (rule_for w)
 
   -- Which of two slices is handed out, where one belongs to each plan.
-  handed_two : (n : ℕ) (of : Rule → List ℕ) → ((r : Rule) → length (of r) ≤ n) → {which : WhichOf} {x y s : List ℕ} → which ≡ which_as (some w)
-      → x ≡ of Short → y ≡ of Sparing → s ≡ sheet_handed (which_given which) n x y → s ≡ of (rule_for w)
-  unfolding sheet_handed
-  handed_two n of few {which} {x} {y} {s} ew ex ey es =
-      es ∙ (λ i. sheet_handed (which_given (ew i)) n (ex i) (ey i)) ∙ go w
+  handed_two : (of : Rule → List ℕ) {which : WhichOf} {x y s : List ℕ} → which ≡ which_as w → x ≡ of Short → y ≡ of Sparing → s ≡ of_which which x y
+      → s ≡ of (rule_for w)
+  handed_two of ew ex ey es = es ∙ (λ i. of_which (ew i) (ex i) (ey i)) ∙ go w
     where
-      go : (v : Which) → sheet_handed (which_given (which_as (some v))) n (of Short) (of Sparing) ≡ of (rule_for v)
-      go is_first = take_all n (of Short) (few Short)
-      go is_second = take_all n (of Sparing) (few Sparing)
+      go : (v : Which) → of_which (which_as v) (of Short) (of Sparing) ≡ of (rule_for v)
+      go is_first = refl
+      go is_second = refl
 
   abbrev made_sheet : Rule → List ℕ
   made_sheet r = bytes 40968 (sheet_bits (schedule_of (rule_of r) j))
@@ -165,14 +165,14 @@ module _ (j : Job) (sound : Sound j) (p : Plans) (q : p ≡ plans_of j) where
   made_reasons r = laid (reasons_of (plan_of (rule_of r) j)) (replicate 16384 0)
 
   -- The page from what is handed out: what `put_page` asks, and what it then gives.
-  module _ {which : WhichOf} (ew : which ≡ which_as (some w)) {x y sheet : List ℕ} (ex : x ≡ made_sheet Short) (ey : y ≡ made_sheet Sparing)
-      (es : sheet ≡ sheet_handed (which_given which) 40968 x y) {u v reasons : List ℕ} (eu : u ≡ made_reasons Short) (ev : v ≡ made_reasons Sparing)
-      (er : reasons ≡ sheet_handed (which_given which) 16384 u v) (page : List ℕ) (room : lines * 17 + 85 ≤ length page) where
+  module _ {which : WhichOf} (ew : which ≡ which_as w) {x y sheet : List ℕ} (ex : x ≡ made_sheet Short) (ey : y ≡ made_sheet Sparing)
+      (es : sheet ≡ of_which which x y) {u v reasons : List ℕ} (eu : u ≡ made_reasons Short) (ev : v ≡ made_reasons Sparing)
+      (er : reasons ≡ of_which which u v) (page : List ℕ) (room : lines * 17 + 85 ≤ length page) where
     sheet_is : sheet ≡ made_sheet (rule_for w)
-    sheet_is = handed_two 40968 made_sheet (λ r. let e = length-bytes 40968 (sheet_bits (schedule_of (rule_of r) j)) in omega (arith, e)) ew ex ey es
+    sheet_is = handed_two made_sheet ew ex ey es
 
     reasons_are : reasons ≡ made_reasons (rule_for w)
-    reasons_are = handed_two 16384 made_reasons (λ r. let e = reasons_long j sound r refl in omega (arith, e)) ew eu ev er
+    reasons_are = handed_two made_reasons ew eu ev er
 
     pub page_asks : (lines ≤ 16384) × (lines * 17 + 85 ≤ length page) × (lines ≤ length reasons) × Below 5 reasons
     page_asks =
@@ -198,44 +198,41 @@ module _ (j : Job) (sound : Sound j) (p : Plans) (q : p ≡ plans_of j) where
   length_is = sym page_is_long
 
   -- What planning with a page gives for three rooms, from what planning gives for two of them.
-  module _ (a b c sheets number : ℕ) (e : number ≡ page_number sheets (lines * 17 + 85) c) where
-    pub page-refused : ((sheets ≡ 0 → ⊥) → planned_for a b (given j) ≡ refused sheets) → (sheets ≡ 0 → planned_for a b (given j) ≡ given (both_plans j sound p q))
-        → (number ≡ 0 → ⊥) → page_for a b c (given j) ≡ refused number
-    unfolding page_for with_page page_number
-    page-refused wrong right f =
-        by_test (eqb sheets 0)
-        (λ y. let z = eqb-true sheets 0 y in
-        by_test (ltb c (lines * 17 + 85))
-        (λ l. rw (right z, page_is_long, l) (ap refused (sym (e ∙ rw (y, l) refl))))
-        (λ l. absurd (f (e ∙ rw (y, l) z))))
-        (λ n. rw (wrong (eqb-false sheets 0 n)) (ap refused (sym (e ∙ rw n refl))))
+  module _ (a b c : ℕ) where
+    pub page_sheets : (k : ℕ) → planned_for a b (given j) ≡ refused k → page_for a b c (given j) ≡ refused k
+    unfolding page_for with_page
+    page_sheets k e = ap (with_page c j) e
 
-    pub page-given : (sheets ≡ 0 → planned_for a b (given j) ≡ given (both_plans j sound p q)) → number ≡ 0
-        → (sheets ≡ 0) × (lines * 17 + 85 ≤ c) × (page_for a b c (given j) ≡ given both_and_page)
-    unfolding page_for with_page page_number
-    page-given right none =
-        by_test (eqb sheets 0)
-        (λ y. let z = eqb-true sheets 0 y in
-        by_test (ltb c (lines * 17 + 85))
-        (λ l. let k : 19 ≡ 0 = sym (e ∙ rw (y, l) refl) ∙ none in absurd (omega (arith, k)))
-        (λ l. (z, ltb-false c (lines * 17 + 85) l, rw (right z, page_is_long, l) refl)))
-        (λ n. let k = eqb-false sheets 0 n in absurd (k (sym (e ∙ rw n refl) ∙ none)))
+    module _ (two : planned_for a b (given j) ≡ given (both_plans j sound p q)) where
+      pub page-refused : (refusal : Refusal) → fits (lines * 17 + 85) c PageRoom ≡ Err refusal → (k : ℕ) × (page_for a b c (given j) ≡ refused k) × (refusal ≡ refusal_of k)
+      unfolding page_for with_page refusal_of
+      page-refused refusal e =
+          by_test (ltb c (lines * 17 + 85))
+          (λ l. (19, rw (two, page_is_long, l) refl, let k = rw l at e in cc))
+          (λ l. (let k = rw l at e in cc))
+
+      pub page-given : fits (lines * 17 + 85) c PageRoom ≡ Ok tt → (lines * 17 + 85 ≤ c) × (page_for a b c (given j) ≡ given both_and_page)
+      unfolding page_for with_page
+      page-given e =
+          by_test (ltb c (lines * 17 + 85))
+          (λ l. (let k = rw l at e in cc))
+          (λ l. (ltb-false c (lines * 17 + 85) l, rw (two, page_is_long, l) refl))
 
 -- What a planning call with a page returns, and the three buffers after it.
-abbrev pub GivesPage : Answer PageGiven → List ℕ → List ℕ → List ℕ → PlannedPage → List ℕ → List ℕ → List ℕ → Type 0
+abbrev pub GivesPage : Answer PageGiven → List ℕ → List ℕ → List ℕ → Result PlannedPage Refusal → List ℕ → List ℕ → List ℕ → Type 0
 GivesPage a short sparing page r short' sparing' page' =
     (r ≡ planned_page_as a) × (short' ≡ short_after (plan_given a) short) × (sparing' ≡ sparing_after (plan_given a) sparing) × (page' ≡ page_after a page)
 
-pub gives_page-refused : (a : Answer PageGiven) (short sparing page : List ℕ) (r : PlannedPage) (n : ℕ) → a ≡ refused n → r ≡ planned_page_as (refused n)
+pub gives_page-refused : (a : Answer PageGiven) (short sparing page : List ℕ) (r : Result PlannedPage Refusal) (n : ℕ) → a ≡ refused n → r ≡ Err (refusal_of n)
     → GivesPage a short sparing page r short sparing page
-unfolding written plan_given
+unfolding written plan_given planned_page_as planned_as returned
 gives_page-refused a short sparing page r n e q =
     subst (λ (x : Answer PageGiven). GivesPage x short sparing page r short sparing page) (sym e) (q, refl, refl, refl)
 
 pub gives_page-given : (a : Answer PageGiven) (short sparing page : List ℕ) {planned : Planned} {length' : ℕ} {short' sparing' page' : List ℕ} (p : PageGiven)
-    → a ≡ given p → Gives (given p.planned) short sparing planned short' sparing' → length' ≡ page_length (given p) → page' ≡ over p.page page
-    → GivesPage a short sparing page (record { planned = planned; length = length' }) short' sparing' page'
+    → a ≡ given p → Gives (given p.planned) short sparing (Ok planned) short' sparing' → length' ≡ page_length (given p) → page' ≡ over p.page page
+    → GivesPage a short sparing page (Ok (record { planned = planned; length = length' })) short' sparing' page'
 unfolding written plan_given planned_page_as
 gives_page-given a short sparing page {planned} {length'} {short'} {sparing'} {page'} p e g l h =
-    subst (λ (x : Answer PageGiven). GivesPage x short sparing page (record { planned = planned; length = length' }) short' sparing' page') (sym e)
-    ((λ i. record { planned = g.0 i; length = l i }), g.1, g.2, h)
+    subst (λ (x : Answer PageGiven). GivesPage x short sparing page (Ok (record { planned = planned; length = length' })) short' sparing' page') (sym e)
+    ((λ i. with_length (l i) (g.0 i)), g.1, g.2, h)

@@ -7,13 +7,19 @@ ghost use Rattle.job.specs.Meaning.{job_of, Fits};
 ghost use Rattle.model.specs.Calls.{short_after, sparing_after, page_for, plan_given, page_after};
 ghost use Rattle.returning.specs.Returning.{planned_page_as};
 
-use handing::sheet_length;
+use driving::Output;
 use job::Job;
+use refusal::Refusal;
 use returning::PlannedPage;
 
 // Planning of a job with a page: as `handing::plan_job`, with the reasons of both plans. The page is made from the sheet and the reasons of the plan
 // handed back.
-pub fn page_job(job: Job, short: &mut [u8], sparing: &mut [u8], page: &mut [u8]) -> PlannedPage
+pub fn page_job(
+    job: Job,
+    short: &mut [u8],
+    sparing: &mut [u8],
+    page: &mut [u8],
+) -> Result<PlannedPage, Refusal>
     requires { Fits job }
     ensures { let a = page_for (length short.old) (length sparing.old) (length page.old) (given (job_of job)) in
         (result ≡ planned_page_as a)
@@ -25,29 +31,31 @@ pub fn page_job(job: Job, short: &mut [u8], sparing: &mut [u8], page: &mut [u8])
     let mut second = [0u8; 40968];
     let mut why_first = [0u8; 16384];
     let mut why_second = [0u8; 16384];
-    let plans = planning::run(
-        job,
-        &mut first,
-        &mut second,
-        &mut why_first,
-        &mut why_second,
-    );
-    let a = plans.short;
-    let b = plans.sparing;
-    let which = returning::which_for(a.rounds, b.rounds);
-    let lines = returning::of_which(which, a.rounds, b.rounds) * job.disks;
+    let mut a = Output {
+        sheet: &mut first,
+        reasons: &mut why_first,
+    };
+    let mut b = Output {
+        sheet: &mut second,
+        reasons: &mut why_second,
+    };
+    let plans = planning::run(job, &mut a, &mut b);
+    let Output {
+        sheet: first,
+        reasons: why_first,
+    } = a;
+    let Output {
+        sheet: second,
+        reasons: why_second,
+    } = b;
+    let which = returning::which_for(plans.short.rounds, plans.sparing.rounds);
+    let lines = which.of(plans.short.rounds, plans.sparing.rounds) * job.disks;
     let length = lines * 17 + 85;
-    let refused = returning::page_number(
-        returning::room_number(sheet_length(a), short.len(), sheet_length(b), sparing.len()),
-        length,
-        page.len(),
-    );
-    if refused != 0 {
-        return returning::page_refusal(refused);
-    }
-    let planned = handing::hand_out(plans, &first, &second, short, sparing);
-    let sheet = returning::handed_slice(which, 40968, &first, &second);
-    let reasons = returning::handed_slice(which, 16384, &why_first, &why_second);
+    handing::both_fit(plans, short.len(), sparing.len())?;
+    returning::fits(length, page.len(), Refusal::PageRoom)?;
+    let planned = handing::hand_out(plans, first, second, short, sparing);
+    let sheet = which.of(&*first, &*second);
+    let reasons = which.of(&*why_first, &*why_second);
     printing::put_page(page, sheet, reasons, job.disks, lines);
-    PlannedPage { planned, length }
+    Ok(PlannedPage { planned, length })
 }

@@ -1,16 +1,20 @@
 -- Tests on the characters of a text. Assumes nothing.
+use Rattle.std.proofs.Common.{Option, Some, None, Result, Ok, Err}
 use mathlib.Core.Path.{◌≡◌, refl, sym, ◌∙◌}
-use mathlib.Core.Bool.{Bool, true, false, true≢false, ◌&&◌}
+use mathlib.Core.Bool.{Bool, true, false, true≢false}
 use mathlib.Core.List.{List, [], ◌∷◌}
 use Prim.Native.Nat.{ℕ, zero, suc, ◌+◌, ◌-◌, ◌*◌, ◌≤◌, ◌<◌}
 use native.Mathlib.Omega.{arith}
 use lib.Dec.{ltb, leb}
 use lib.ListN.{length, drop, get_or}
 use lib.Seq.{drop-cons}
-use borrow.Author.Tests.{le-leb, lt-leb, lt-ltb, leb-true, ltb-true}
-use Rattle.bits.proofs.Logic.{by_test, clash, and_true, and_false_left, and_false_right, and_left, and_right}
+use borrow.Author.Tests.{le-leb, lt-leb, lt-ltb, le-ltb, leb-true, ltb-true, ltb-false}
+use Rattle.bits.proofs.Logic.{by_test, and_left, and_right}
 use Rattle.grammar.specs.Reading.{is_digit, digit, goes_on}
-use Rattle.pieces.specs.Pieces.{begins_with, first_digit, digits_from, count_of, refused_count, count_at, another_item, another_side, note_ends, refused_joint, joint_at}
+use Rattle.pieces.specs.declared.Met.{Met}
+use Rattle.pieces.specs.declared.Counted.{Counted}
+use Rattle.pieces.specs.declared.Joint.TheVariants.{Item, Side, End}
+use Rattle.pieces.specs.Pieces.{begins_with, first_digit, with_digit, digits_from, malformed, count_of, count_at, joint_at}
 
 -- nothing is left past the end, and before it a character is
 pub drop_past : (t : List ℕ) (at : ℕ) → length t ≤ at → drop at t ≡ []
@@ -18,16 +22,6 @@ drop_past [] zero h = refl
 drop_past [] (suc at) h = refl
 drop_past (c ∷ t) zero h = absurd (omega arith)
 drop_past (c ∷ t) (suc at) h = drop_past t at (omega arith)
-
--- digits
-pub digit_below : (c : ℕ) → c < 48 → is_digit c ≡ false
-digit_below c h = and_false_left _ (lt-leb 48 c h)
-
-pub digit_above : (c : ℕ) → 57 < c → is_digit c ≡ false
-digit_above c h = and_false_right (leb 48 c) (lt-leb c 57 h)
-
-pub digit-within : (c : ℕ) → 48 ≤ c → c ≤ 57 → is_digit c ≡ true
-digit-within c h k = and_true (le-leb 48 c h) (le-leb c 57 k)
 
 -- a text that begins with a character, or with a digit, is not at its end
 pub begins_within : (x : ℕ) (t : List ℕ) (at : ℕ) {r : Bool} → r ≡ begins_with x (drop at t) → r ≡ true → at < length t
@@ -37,12 +31,27 @@ begins_within x [] (suc at) e h = absurd (true≢false (sym h ∙ e))
 begins_within x (c ∷ t) zero e h = omega arith
 begins_within x (c ∷ t) (suc at) e h = let k = begins_within x t at e h in omega arith
 
-pub digit_is_within : (t : List ℕ) (at : ℕ) {d : ℕ} → d ≡ first_digit (drop at t) → d ≤ 9 → at < length t
+pub digit_is_within : (t : List ℕ) (at : ℕ) {d : ℕ} → first_digit (drop at t) ≡ Some d → at < length t
 unfolding first_digit
-digit_is_within [] zero e h = absurd (omega arith)
-digit_is_within [] (suc at) e h = absurd (omega arith)
-digit_is_within (c ∷ t) zero e h = omega arith
-digit_is_within (c ∷ t) (suc at) e h = let k = digit_is_within t at e h in omega arith
+digit_is_within [] zero e = cc
+digit_is_within [] (suc at) e = cc
+digit_is_within (c ∷ t) zero e = omega arith
+digit_is_within (c ∷ t) (suc at) e = let k = digit_is_within t at e in omega arith
+
+-- a digit is at most 9
+pub digit-few : (l : List ℕ) {d : ℕ} → first_digit l ≡ Some d → d ≤ 9
+unfolding first_digit
+digit-few [] e = cc
+digit-few (c ∷ l) {d} e =
+    by_test (is_digit c)
+    (λ g. let most = leb-true c 57 (and_right (leb 48 c) _ g) in let same : digit c ≡ d = some_same (rw g at e) in omega arith)
+    (λ g. absurd (some_none (rw g at e)))
+  where
+    some_same : {x y : ℕ} → Some x ≡ Some y → x ≡ y
+    some_same f = cc
+
+    some_none : {y : ℕ} → None ≡ Some y → ⊥
+    some_none f = cc
 
 pub char_at : (t : List ℕ) (at : ℕ) → at < length t → drop at t ≡ get_or t at 0 ∷ drop (suc at) t
 char_at t at h = drop-cons t at 0 h
@@ -65,6 +74,12 @@ goes most v c e =
       within = leb-true _ most (and_right (ltb 0 v) _ r);
     }
 
+pub goes_so : (most v c : ℕ) {w : ℕ} → with_digit most v c ≡ Some w → (goes_on most v c ≡ true) × (w ≡ v * 10 + digit c)
+goes_so most v c e = by_test (goes_on most v c) (λ g. let f = rw g at e in (g, cc)) (λ g. let f = rw g at e in absurd (cc))
+
+pub goes_not : (most v c : ℕ) → with_digit most v c ≡ None → goes_on most v c ≡ false
+goes_not most v c e = by_test (goes_on most v c) (λ g. let f = rw g at e in absurd (cc)) (λ g. g)
+
 -- a number with a digit more, one that stops at a character, and one that stops at the end
 pub digits_more : (most v at c : ℕ) (l : List ℕ) → goes_on most v c ≡ true → digits_from most v at (c ∷ l) ≡ digits_from most (v * 10 + digit c) (suc at) l
 unfolding digits_from
@@ -80,45 +95,46 @@ digits_end most v at = refl
 
 -- the cases of `joint_at` and of `count_at`, by the tests that the code makes
 module _ (t : List ℕ) (at : ℕ) where
-  pub joint_side : begins_with 32 (drop at t) ≡ true → begins_with 124 (drop (at + 1) t) ≡ true → begins_with 32 (drop (at + 2) t) ≡ true → joint_at t at ≡ another_side (at + 3)
+  pub joint_side : begins_with 32 (drop at t) ≡ true → begins_with 124 (drop (at + 1) t) ≡ true → begins_with 32 (drop (at + 2) t) ≡ true → joint_at t at ≡ Ok (Side (at + 3))
   unfolding joint_at
   joint_side p q r = rw (p, q, r)
 
-  pub joint_bar : begins_with 32 (drop at t) ≡ true → begins_with 124 (drop (at + 1) t) ≡ true → begins_with 32 (drop (at + 2) t) ≡ false → joint_at t at ≡ refused_joint (at + 2)
+  pub joint_bar : begins_with 32 (drop at t) ≡ true → begins_with 124 (drop (at + 1) t) ≡ true → begins_with 32 (drop (at + 2) t) ≡ false → joint_at t at ≡ Err (malformed (at + 2))
   unfolding joint_at
   joint_bar p q r = rw (p, q, r)
 
-  pub joint_item : begins_with 32 (drop at t) ≡ true → begins_with 124 (drop (at + 1) t) ≡ false → joint_at t at ≡ another_item (at + 1)
+  pub joint_item : begins_with 32 (drop at t) ≡ true → begins_with 124 (drop (at + 1) t) ≡ false → joint_at t at ≡ Ok (Item (at + 1))
   unfolding joint_at
   joint_item p q = rw (p, q)
 
-  pub joint_close : begins_with 32 (drop at t) ≡ false → begins_with 41 (drop at t) ≡ true → joint_at t at ≡ note_ends at
+  pub joint_close : begins_with 32 (drop at t) ≡ false → begins_with 41 (drop at t) ≡ true → joint_at t at ≡ Ok End
   unfolding joint_at
   joint_close p q = rw (p, q)
 
-  pub joint_end : length t ≤ at → joint_at t at ≡ note_ends at
+  pub joint_end : length t ≤ at → joint_at t at ≡ Ok End
   unfolding joint_at begins_with
   joint_end h = rw (drop_past t at h, le-leb (length t) at h)
 
-  pub joint_wrong : begins_with 32 (drop at t) ≡ false → begins_with 41 (drop at t) ≡ false → at < length t → joint_at t at ≡ refused_joint at
+  pub joint_wrong : begins_with 32 (drop at t) ≡ false → begins_with 41 (drop at t) ≡ false → at < length t → joint_at t at ≡ Err (malformed at)
   unfolding joint_at
   joint_wrong p q h = rw (p, q, lt-leb (length t) at h)
 
-  pub count_none : begins_with 42 (drop at t) ≡ false → count_at t at ≡ record { number = 0; at = at; times = 1 }
+  pub count_none : begins_with 42 (drop at t) ≡ false → count_at t at ≡ Ok (record { times = 1; at = at })
   unfolding count_at
   count_none p = rw p
 
-  pub count-number : begins_with 42 (drop at t) ≡ true → (d : ℕ) → d ≡ first_digit (drop (at + 1) t) → 0 < d → d ≤ 9
-      → count_at t at ≡ count_of (digits_from 2048 d (at + 2) (drop (at + 2) t))
+  pub count-number : begins_with 42 (drop at t) ≡ true → (d : ℕ) → first_digit (drop (at + 1) t) ≡ Some d → 0 < d
+      → count_at t at ≡ Ok (count_of (digits_from 2048 d (at + 2) (drop (at + 2) t)))
   unfolding count_at
-  count-number p d e h k = rw (p, ← e, lt-ltb 0 d h, le-leb d 9 k)
+  count-number p d e h = rw (p, e, lt-ltb 0 d h)
 
-  pub count_wrong : begins_with 42 (drop at t) ≡ true → (d : ℕ) → d ≡ first_digit (drop (at + 1) t) → (0 < d → d ≤ 9 → ⊥) → count_at t at ≡ refused_count (at + 1)
+  pub count_zero : begins_with 42 (drop at t) ≡ true → (d : ℕ) → first_digit (drop (at + 1) t) ≡ Some d → d ≤ 0 → count_at t at ≡ Err (malformed (at + 1))
   unfolding count_at
-  count_wrong p d e h =
-      by_test (ltb 0 d && leb d 9)
-      (λ b. absurd (h (ltb-true 0 d (and_left (ltb 0 d) _ b)) (leb-true d 9 (and_right (ltb 0 d) _ b))))
-      (λ b. rw (p, ← e, b))
+  count_zero p d e h = rw (p, e, le-ltb 0 d h)
+
+  pub count_off : begins_with 42 (drop at t) ≡ true → first_digit (drop (at + 1) t) ≡ None → count_at t at ≡ Err (malformed (at + 1))
+  unfolding count_at
+  count_off p e = rw (p, e)
 
 -- a number stays within its bound, is not 0 if its first digit is not, and ends within the text
 pub digits-within : (most v at : ℕ) (l : List ℕ) → v ≤ most → (digits_from most v at l).value ≤ most
@@ -143,19 +159,24 @@ digits-place most v at (c ∷ l) =
     (λ e. rw (digits-stop most v at c l e) (omega arith))
 
 -- a count that is not refused is 1 to 2048
-pub count-within : (t : List ℕ) (at : ℕ) → (count_at t at).number ≡ 0 → (1 ≤ (count_at t at).times) × ((count_at t at).times ≤ 2048)
-count-within t at z =
+pub count-within : (t : List ℕ) (at : ℕ) {n : Counted} → count_at t at ≡ Ok n → (1 ≤ n.times) × (n.times ≤ 2048)
+count-within t at {n} z =
     by_test (begins_with 42 (drop at t))
-    (λ p. by_test (ltb 0 d && leb d 9)
-    (λ q. rw (count-number t at p d refl (low q) (high q)) (digits-some 2048 d (at + 2) _ (low q), digits-within 2048 d (at + 2) _ (let few = high q in omega arith)))
-    (λ q. absurd (omega (arith, rw (count_wrong t at p d refl (λ h k. clash (and_true (lt-ltb 0 d h) (le-leb d 9 k)) q)) at z))))
-    (λ p. rw (count_none t at p) (omega arith, omega arith))
+    (λ p. go p (first_digit (drop (at + 1) t)) refl)
+    (λ p. let e : n ≡ record { times = 1; at = at } = ok_same (sym z ∙ count_none t at p) in rw e (omega arith, omega arith))
   where
-    d : ℕ
-    d = first_digit (drop (at + 1) t)
+    ok_same : {x y : Counted} → ◌≡◌ {A = Result Counted Met} (Ok x) (Ok y) → x ≡ y
+    ok_same f = cc
 
-    low : ltb 0 d && leb d 9 ≡ true → 0 < d
-    low q = ltb-true 0 d (and_left (ltb 0 d) _ q)
+    begun : begins_with 42 (drop at t) ≡ true → (d : ℕ) → first_digit (drop (at + 1) t) ≡ Some d → 0 < d → (1 ≤ n.times) × (n.times ≤ 2048)
+    begun p d e h =
+        let few = digit-few (drop (at + 1) t) e in
+        let s : n ≡ count_of (digits_from 2048 d (at + 2) (drop (at + 2) t)) = ok_same (sym z ∙ count-number t at p d e h) in
+        rw s (digits-some 2048 d (at + 2) _ h, digits-within 2048 d (at + 2) _ (omega arith))
 
-    high : ltb 0 d && leb d 9 ≡ true → d ≤ 9
-    high q = leb-true d 9 (and_right (ltb 0 d) _ q)
+    go : begins_with 42 (drop at t) ≡ true → (x : Option ℕ) → first_digit (drop (at + 1) t) ≡ x → (1 ≤ n.times) × (n.times ≤ 2048)
+    go p None e = let f = count_off t at p e in absurd (cc)
+    go p (Some d) e =
+        by_test (ltb 0 d)
+        (λ b. begun p d e (ltb-true 0 d b))
+        (λ b. let f = count_zero t at p d e (ltb-false 0 d b) in absurd (cc))

@@ -2,8 +2,34 @@
 #![tactic(auto)]
 
 ghost use Rattle.std.specs.Prelude.{◌≡◌, ◌+◌, ◌≤◌, ◌<◌, length, drop};
-ghost use Rattle.grammar.specs.Reading.{goes_on};
-ghost use Rattle.pieces.specs.Pieces.{begins_with, first_digit, digits_from, count_at, refused_joint, joint_at};
+ghost use Rattle.pieces.specs.Pieces.{begins_with, digit_of, first_digit, with_digit, digits_from, malformed, count_at, joint_at};
+
+use refusal::Refusal;
+
+// Why a note is refused, and where that is met.
+#[derive(Clone, Copy)]
+pub struct Met {
+    pub refusal: Refusal,
+    pub at: usize,
+}
+
+impl From<Met> for Refusal {
+    ghost from_gives = { λ m r. r ≡ m.refusal };
+
+    fn from(met: Met) -> Refusal {
+        met.refusal
+    }
+}
+
+// A note that is malformed, which is met at `at`.
+pub fn malformed(at: usize) -> Met
+    ensures { result ≡ malformed at }
+{
+    Met {
+        refusal: Refusal::NoteMalformed,
+        at,
+    }
+}
 
 // A number, and the place after it.
 #[derive(Clone, Copy)]
@@ -12,66 +38,49 @@ pub struct Numeral {
     pub at: usize,
 }
 
-// How many times a part is taken, and the place after that; or the number of a refusal and where it is met.
+// How many times a part is taken, and the place after that.
 #[derive(Clone, Copy)]
 pub struct Counted {
-    pub number: usize,
-    pub at: usize,
     pub times: usize,
+    pub at: usize,
 }
 
-// What follows an item, and the place after it: whether the side is complete, and whether another item follows, of this side or the next; or the
-// number of a refusal and where it is met.
+// What follows an item: another item of its side or another side, at a place, or the end of the note.
 #[derive(Clone, Copy)]
-pub struct Joint {
-    pub number: usize,
-    pub at: usize,
-    pub complete: bool,
-    pub more: bool,
+pub enum Joint {
+    Item(usize),
+    Side(usize),
+    End,
 }
 
 // Whether the character `c` stands at `at`.
 pub fn is_at(text: &[u8], at: usize, c: u8) -> bool
     ensures { result ≡ begins_with c (drop at text.now) }
 {
-    if text.len() <= at {
-        return false;
-    }
-    text[at] == c
+    text.get(at) == Some(&c)
 }
 
-// The digit at `at`, 10 if there is none.
-pub fn digit_at(text: &[u8], at: usize) -> usize
+// The digit that a character is, if it is one.
+pub fn digit(c: u8) -> Option<usize>
+    ensures { result ≡ digit_of c }
+{
+    c.is_ascii_digit().then(|| (c - b'0') as usize)
+}
+
+// The digit at `at`, if there is one.
+pub fn digit_at(text: &[u8], at: usize) -> Option<usize>
     ensures { result ≡ first_digit (drop at text.now) }
 {
-    if text.len() <= at {
-        return 10;
-    }
-    let c = text[at];
-    if c < b'0' {
-        return 10;
-    }
-    if b'9' < c {
-        return 10;
-    }
-    (c - b'0') as usize
+    digit(*text.get(at)?)
 }
 
-// Whether a number goes on with the character `c`.
-fn goes_on(most: usize, value: usize, c: u8) -> bool
+// A number with the character `c` as one digit more, if it goes on with that.
+fn with_digit(most: usize, value: usize, c: u8) -> Option<usize>
     requires { value ≤ 2048 }
-    ensures { result ≡ goes_on most value c }
+    ensures { result ≡ with_digit most value c }
 {
-    if c < b'0' {
-        return false;
-    }
-    if b'9' < c {
-        return false;
-    }
-    if value == 0 {
-        return false;
-    }
-    value * 10 + (c - b'0') as usize <= most
+    let more = value * 10 + digit(c)?;
+    (0 < value && more <= most).then_some(more)
 }
 
 // A number of which `first` has been read, up to `at`.
@@ -82,88 +91,53 @@ pub fn number_from(text: &[u8], at: usize, first: usize, most: usize) -> Numeral
     ensures { result ≡ digits_from most first at (drop at text.now) }
 {
     let mut value = first;
-    let mut next = at;
-    while next < text.len() {
-        let c = text[next];
-        if goes_on(most, value, c) {
-            value = value * 10 + (c - b'0') as usize;
-            next += 1;
-        } else {
-            return Numeral { value, at: next };
+    for next in at..text.len() {
+        match with_digit(most, value, text[next]) {
+            Some(more) => value = more,
+            None => return Numeral { value, at: next },
         }
     }
-    Numeral { value, at: next }
+    Numeral {
+        value,
+        at: text.len(),
+    }
 }
 
 // The count after the part that ends before `at`.
-pub fn count_after(text: &[u8], at: usize) -> Counted
+pub fn count_after(text: &[u8], at: usize) -> Result<Counted, Met>
     ensures { result ≡ count_at text.now at }
 {
-    if is_at(text, at, b'*') {
-        let first = digit_at(text, at + 1);
-        if 0 < first && first <= 9 {
+    if !is_at(text, at, b'*') {
+        return Ok(Counted { times: 1, at });
+    }
+    match digit_at(text, at + 1) {
+        Some(first) if 0 < first => {
             let n = number_from(text, at + 2, first, 2048);
-            return Counted {
-                number: 0,
-                at: n.at,
+            Ok(Counted {
                 times: n.value,
-            };
+                at: n.at,
+            })
         }
-        return Counted {
-            number: 22,
-            at: at + 1,
-            times: 0,
-        };
-    }
-    Counted {
-        number: 0,
-        at,
-        times: 1,
-    }
-}
-
-// Nothing that can follow an item.
-fn refused_joint(at: usize) -> Joint
-    ensures { result ≡ refused_joint at }
-{
-    Joint {
-        number: 22,
-        at,
-        complete: false,
-        more: false,
+        _ => Err(malformed(at + 1)),
     }
 }
 
 // What follows the item that ends before `at`.
-pub fn joint_after(text: &[u8], at: usize) -> Joint
+pub fn joint_after(text: &[u8], at: usize) -> Result<Joint, Met>
     ensures { result ≡ joint_at text.now at }
 {
-    if is_at(text, at, b' ') {
-        if is_at(text, at + 1, b'|') {
-            if is_at(text, at + 2, b' ') {
-                return Joint {
-                    number: 0,
-                    at: at + 3,
-                    complete: true,
-                    more: true,
-                };
-            }
-            return refused_joint(at + 2);
-        }
-        return Joint {
-            number: 0,
-            at: at + 1,
-            complete: false,
-            more: true,
+    if !is_at(text, at, b' ') {
+        return if is_at(text, at, b')') || text.len() <= at {
+            Ok(Joint::End)
+        } else {
+            Err(malformed(at))
         };
     }
-    if is_at(text, at, b')') || text.len() <= at {
-        return Joint {
-            number: 0,
-            at,
-            complete: true,
-            more: false,
-        };
+    if !is_at(text, at + 1, b'|') {
+        return Ok(Joint::Item(at + 1));
     }
-    refused_joint(at)
+    if !is_at(text, at + 2, b' ') {
+        return Err(malformed(at + 2));
+    }
+    Ok(Joint::Side(at + 3))
 }

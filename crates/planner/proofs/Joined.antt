@@ -15,17 +15,19 @@ use Rattle.slot_counts.specs.Slots.{SlotsFound, slots_after, returned_slots, slo
 use Rattle.model.proofs.Promises.{part-handed, plan_refused, page_exactly, sheet-handed, choose_refused}
 use Rattle.slot_counts.proofs.Promises.{slots-written, none_written, slots-refused}
 use Rattle.returning.specs.Returning.{planned_as, which_as, which_given, chosen_as, least_as}
-use Rattle.planner.specs.Planner.{plan_into, page_into, slots_into}
+use Rattle.planner.specs.Planner.{plan_into, page_into, slots_into, slots_length}
+use Rattle.planner.specs.Planner.{part_given as planner_part}
+use Rattle.planner.specs.Planner.{sheet_given as planner_sheet}
 
 -- by the contracts of both: what `part` gives after a planning call that gave `a`
 abbrev pub part_of_call : Answer PlanGiven → List ℕ → List ℕ → List ℕ
 part_of_call a short sparing =
-    let r = planned_as (returned a) in
-    part_of r.length r.short.rounds r.sparing.rounds (short_after a short) (sparing_after a sparing)
+    planner_part (planned_as (returned a)) (short_after a short) (sparing_after a sparing)
 
 same_part : (a : Answer PlanGiven) (short sparing : List ℕ) → part_of_call a short sparing ≡ part_after a short sparing
-unfolding planned_as part_after
-same_part a short sparing = refl
+unfolding planned_as returned part_after part_of
+same_part (given p) short sparing = refl
+same_part (refused n) short sparing = refl
 
 -- After a planning call that is not refused it is the sheet handed back, byte for byte;
 pub part-given : (t : List ℕ) (stop : ℕ) (short sparing : List ℕ) (p : PlanGiven) → plan_into t stop short sparing ≡ given p → part_of_call (plan_into t stop short sparing) short sparing ≡ handed p
@@ -53,17 +55,16 @@ page-part-refused t stop short sparing page n e =
 -- by the contracts of both: what `chosen_sheet` gives after a choice that gave `a`
 abbrev pub sheet_of_call : Answer ChosenSheet → List ℕ → List ℕ → List ℕ
 sheet_of_call a first second =
-    let r = chosen_as (returned_choice a) in
-    sheet_handed (which_given r.which) r.length first second
+    planner_sheet (chosen_as (returned_choice a)) first second
 
-same_which : (w : Option WhichGiven) → which_given (which_as w) ≡ w
-same_which none = refl
-same_which (some is_first) = refl
-same_which (some is_second) = refl
+same_which : (w : WhichGiven) → which_given (which_as w) ≡ w
+same_which is_first = refl
+same_which is_second = refl
 
 same_sheet : (a : Answer ChosenSheet) (first second : List ℕ) → sheet_of_call a first second ≡ sheet_after a first second
-unfolding chosen_as sheet_after
-same_sheet a first second = let r = returned_choice a in ap (λ (w : Option WhichGiven). sheet_handed w r.sheet_length first second) (same_which r.which)
+unfolding chosen_as returned_choice sheet_after sheet_handed
+same_sheet (given c) first second = ap (λ (w : WhichGiven). sheet_handed (some w) c.sheet_length first second) (same_which c.which)
+same_sheet (refused n) first second = refl
 
 -- After a choice that is not refused it is the sheet handed back, byte for byte;
 pub sheet-given : (t : List ℕ) (stop : ℕ) (first second : List ℕ) (c : ChosenSheet) → choose_answer t stop first second ≡ given c
@@ -76,11 +77,13 @@ sheet-refused t stop first second n e = ap (λ (a : Answer ChosenSheet). sheet_o
 
 -- by the contracts of both: what `slots_part` gives after a call for the least slots that gave `a`
 abbrev pub slots_part_of_call : Answer (Option SlotsFound) → List ℕ → List ℕ
-slots_part_of_call a short = take (least_as (returned_slots a)).length (slots_after a short)
+slots_part_of_call a short = take (slots_length (least_as (returned_slots a))) (slots_after a short)
 
 same_slots : (a : Answer (Option SlotsFound)) (short : List ℕ) → slots_part_of_call a short ≡ slots_part a short
-unfolding least_as slots_part
-same_slots a short = refl
+unfolding least_as returned_slots slots_part
+same_slots (given (some f)) short = refl
+same_slots (given none) short = refl
+same_slots (refused n) short = refl
 
 -- After a call that found a count it is the short sheet for it, byte for byte;
 pub slots-part-given : (t : List ℕ) (stop d wanted : ℕ) (short : List ℕ) (f : SlotsFound) → slots_into t stop d wanted short ≡ given (some f)

@@ -4,9 +4,12 @@ use mathlib.Core.Path.{◌≡◌, refl, sym, ap, ◌∙◌, subst}
 use mathlib.Core.List.{List}
 use Prim.Native.Nat.{ℕ}
 use lib.ListN.{length}
+use Rattle.std.specs.Prelude.{Result, Ok, Err}
+use Rattle.job.specs.Meaning.{job_of}
+use Rattle.job.specs.declared.Job.{Job as Stored}
 use Rattle.bits.specs.Reading.{Answer, given, refused}
 use Rattle.model.specs.Job.{Job}
-use Rattle.model.specs.Calls.{job_up_to, check_answer, plan_answer, planned_for, page_answer, page_for, plan_given, page_length, short_after, sparing_after, page_after, returned, short_counts, sparing_counts}
+use Rattle.model.specs.Calls.{job_up_to, check_answer, plan_answer, planned_for, page_answer, page_for, plan_given, short_after, sparing_after, page_after, returned, short_counts, sparing_counts}
 use Rattle.model.specs.Calls.{Planned as PlanGiven}
 use Rattle.model.specs.Calls.{PlannedPage as PageGiven}
 use Rattle.model.proofs.Promises.{short_passes, sparing_passes, planned-counts, handed_back, page_exactly, sparing_bound}
@@ -14,8 +17,13 @@ use Rattle.model.proofs.Bytes
 use Rattle.returning.specs.Returning.{planned_as, planned_page_as}
 use Rattle.returning.specs.declared.Planned.{Planned}
 use Rattle.returning.specs.declared.PlannedPage.{PlannedPage}
-use Rattle.handing.proofs.Rooms.{Gives}
-use Rattle.page_planning.proofs.Pages.{GivesPage}
+use Rattle.handing.proofs.Rooms.{Gives, gives_refused}
+use Rattle.page_planning.proofs.Pages.{GivesPage, gives_page-refused}
+use Rattle.ticket.specs.Meaning.{job_read_up_to}
+use Rattle.ticket.proofs.Laws.{read-given, read-refused}
+use Rattle.refusal.specs.Refusals.{number}
+use Rattle.refusal.specs.declared.Refusal.{Refusal}
+use Rattle.planner.proofs.Laws.{same-refusal}
 use Rattle.planner.specs.Planner.{Promised}
 
 -- Demands 2 and 3, and the bound of L8, hold of what planning gives.
@@ -49,27 +57,51 @@ page_promised t stop a b c = go (page_answer t stop a b c) refl
     go (given p) q = subst (Promised t stop) ((page_exactly t stop a b c p).0 q).2 (promised t stop a b)
     go (refused n) q = tt
 
--- The answer for a ticket is that for its job.
-planned-for : (t : List ℕ) (stop a b : ℕ) (x : Answer Job) → job_up_to t stop ≡ x → planned_for a b x ≡ plan_answer t stop a b
-unfolding plan_answer
-planned-for t stop a b x e = ap (planned_for a b) (sym e)
+-- What planning for a ticket returns, the two buffers after it, and what is promised.
+module _ (t : List ℕ) (stop : ℕ) (short sparing : List ℕ) where
+  abbrev PlansFor : Result Planned Refusal → List ℕ → List ℕ → Type 0
+  PlansFor r short' sparing' =
+      let a = plan_answer t stop (length short) (length sparing) in
+      (r ≡ planned_as (returned a)) × (short' ≡ short_after a short) × (sparing' ≡ sparing_after a sparing) × Promised t stop a
 
-pub gives_ticket : (t : List ℕ) (stop : ℕ) (short sparing : List ℕ) (x : Answer Job) (r : Planned) (short' sparing' : List ℕ) → job_up_to t stop ≡ x
-    → Gives (planned_for (length short) (length sparing) x) short sparing r short' sparing'
-    → (r ≡ planned_as (returned (plan_answer t stop (length short) (length sparing))))
-    × (short' ≡ short_after (plan_answer t stop (length short) (length sparing)) short)
-    × (sparing' ≡ sparing_after (plan_answer t stop (length short) (length sparing)) sparing)
-    × Promised t stop (plan_answer t stop (length short) (length sparing))
-gives_ticket t stop short sparing x r short' sparing' e g =
-    let h = subst (λ (a : Answer PlanGiven). Gives a short sparing r short' sparing') (planned-for t stop (length short) (length sparing) x e) g in
-    (h.0, h.1, h.2, promised t stop (length short) (length sparing))
+  -- The answer for a ticket is that for its job.
+  gives_ticket : (x : Answer Job) {r : Result Planned Refusal} {short' sparing' : List ℕ} → job_up_to t stop ≡ x
+      → Gives (planned_for (length short) (length sparing) x) short sparing r short' sparing' → PlansFor r short' sparing'
+  unfolding plan_answer
+  gives_ticket x {r} {short'} {sparing'} e g =
+      let h = subst (λ (y : Answer Job). Gives (planned_for (length short) (length sparing) y) short sparing r short' sparing') (sym e) g in
+      (h.0, h.1, h.2, promised t stop (length short) (length sparing))
 
-pub gives_page_ticket : (t : List ℕ) (stop : ℕ) (short sparing page : List ℕ) (x : Answer Job) (r : PlannedPage) (short' sparing' page' : List ℕ) → job_up_to t stop ≡ x
-    → GivesPage (page_for (length short) (length sparing) (length page) x) short sparing page r short' sparing' page'
-    → (let a = page_answer t stop (length short) (length sparing) (length page) in
-    (r.planned ≡ planned_as (returned (plan_given a))) × (r.length ≡ page_length a) × (short' ≡ short_after (plan_given a) short) × (sparing' ≡ sparing_after (plan_given a) sparing) × (page' ≡ page_after a page)
-    × Promised t stop (plan_given a))
-unfolding page_answer planned_page_as
-gives_page_ticket t stop short sparing page x r short' sparing' page' e g =
-    let h = subst (λ (y : Answer Job). GivesPage (page_for (length short) (length sparing) (length page) y) short sparing page r short' sparing' page') (sym e) g in
-    (ap (λ (v : PlannedPage). v.planned) h.0, ap (λ (v : PlannedPage). v.length) h.0, h.1, h.2, h.3, page_promised t stop (length short) (length sparing) (length page))
+  pub plan-refused : {refusal : Refusal} → job_read_up_to t stop ≡ Err refusal → {r : Result Planned Refusal} → r ≡ Err refusal → PlansFor r short sparing
+  unfolding planned_for
+  plan-refused {refusal} e {r} q =
+      gives_ticket (refused (number refusal)) (read-refused t stop e) (gives_refused _ short sparing r (number refusal) refl (same-refusal q))
+
+  pub plan-given : {c : Stored} → job_read_up_to t stop ≡ Ok c → {r : Result Planned Refusal} {short' sparing' : List ℕ}
+      → Gives (planned_for (length short) (length sparing) (given (job_of c))) short sparing r short' sparing' → PlansFor r short' sparing'
+  plan-given e g = gives_ticket _ (read-given t stop e) g
+
+  -- and with a page, likewise
+  module _ (page : List ℕ) where
+    abbrev PagesFor : Result PlannedPage Refusal → List ℕ → List ℕ → List ℕ → Type 0
+    PagesFor r short' sparing' page' =
+        let a = page_answer t stop (length short) (length sparing) (length page) in
+        (r ≡ planned_page_as a) × (short' ≡ short_after (plan_given a) short) × (sparing' ≡ sparing_after (plan_given a) sparing)
+        × (page' ≡ page_after a page) × Promised t stop (plan_given a)
+
+    gives_page_ticket : (x : Answer Job) {r : Result PlannedPage Refusal} {short' sparing' page' : List ℕ} → job_up_to t stop ≡ x
+        → GivesPage (page_for (length short) (length sparing) (length page) x) short sparing page r short' sparing' page' → PagesFor r short' sparing' page'
+    unfolding page_answer
+    gives_page_ticket x {r} {short'} {sparing'} {page'} e g =
+        let h = subst (λ (y : Answer Job). GivesPage (page_for (length short) (length sparing) (length page) y) short sparing page r short' sparing' page') (sym e) g in
+        (h.0, h.1, h.2, h.3, page_promised t stop (length short) (length sparing) (length page))
+
+    pub page-refused : {refusal : Refusal} → job_read_up_to t stop ≡ Err refusal → {r : Result PlannedPage Refusal} → r ≡ Err refusal → PagesFor r short sparing page
+    unfolding page_for
+    page-refused {refusal} e {r} q =
+        gives_page_ticket (refused (number refusal)) (read-refused t stop e) (gives_page-refused _ short sparing page r (number refusal) refl (same-refusal q))
+
+    pub page-given : {c : Stored} → job_read_up_to t stop ≡ Ok c → {r : Result PlannedPage Refusal} {short' sparing' page' : List ℕ}
+        → GivesPage (page_for (length short) (length sparing) (length page) (given (job_of c))) short sparing page r short' sparing' page'
+        → PagesFor r short' sparing' page'
+    page-given e g = gives_page_ticket _ (read-given t stop e) g

@@ -16,9 +16,7 @@ pub extern "C" fn planner_check(ticket: &[u8], stop: usize, sheet: &[u8], counts
         × Exact ticket.now stop sheet.now (checked_of a)
         × Unbeaten ticket.now stop (checked_of a) }
 {
-    let c = planner::check(ticket, stop, sheet);
-    let fetches = c.fetches;
-    counts::lay_checked(counts, c.number, c.rounds, fetches)
+    counts::lay_checked(counts, planner::check(ticket, stop, sheet))
 }
 
 // Planning, from C: its number; in `counts`, as far as that reaches, the mark (0 short, 1 sparing), the length of the part, and the rounds and eight
@@ -38,8 +36,7 @@ pub extern "C" fn planner_plan(
         × (counts.new ≡ counts_written planning_numbers a counts.old)
         × Promised ticket.now stop a }
 {
-    let p = planner::plan(ticket, stop, short, sparing);
-    counts::lay_planned(counts, p)
+    counts::lay_planned(counts, planner::plan(ticket, stop, short, sparing))
 }
 
 // The choice, from C: its number; in `counts`, as far as that reaches, which sheet is handed back (0 the first, 1 the second) and its length.
@@ -56,6 +53,5 @@ pub extern "C" fn planner_choose(
         × (counts.new ≡ counts_written choice_numbers a counts.old)
         × Preferred ticket.now stop first.now second.now a }
 {
-    let c = planner::choose(ticket, stop, first, second);
-    counts::lay_chosen(counts, c)
+    counts::lay_chosen(counts, planner::choose(ticket, stop, first, second))
 }

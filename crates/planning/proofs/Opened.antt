@@ -3,7 +3,8 @@ use mathlib.Core.Path.{◌≡◌, refl, sym, ap, ◌∙◌, subst}
 use mathlib.Core.List.{List, map}
 use Prim.Native.Nat.{ℕ, suc, ◌≤◌}
 use native.Mathlib.Omega.{arith}
-use lib.ListN.{length, take, replicate, get_or-replicate}
+use lib.ListN.{length, take, replicate}
+use Rattle.std.proofs.lemmas.List.Elements.{All-replicate}
 use Rattle.bits.specs.Bits.{bytes, laid, Below}
 use Rattle.job.specs.Meaning.{job_of, Fits}
 use Rattle.job.specs.declared.Job.{Job as Stored}
@@ -23,7 +24,11 @@ use Rattle.choosing.specs.declared.Rule.{Rule}
 use Rattle.choosing.specs.declared.Rule.TheVariants.{Short, Sparing}
 use Rattle.moving.proofs.PointerRight.{forward_ahead}
 use Rattle.opening.specs.Opening.{start_steps, start_desk}
-use Rattle.opening.proofs.Started.{refs_lent, refs-few, refs-small, disks_lent, forward_start, desk_right, desk_sized, desk-held}
+use Rattle.opening.proofs.Started.{refs_lent, refs-few, refs-small, disks_lent, forward_start, desk_right, desk_within, desk-held}
+use Rattle.lookup.specs.declared.Desk.{Desk}
+use Rattle.lookup.specs.declared.Steps.{Steps}
+use Rattle.writing.specs.Writing.{Small}
+use Rattle.writing.specs.declared.Action.TheVariants.{NoneMissing}
 use Rattle.driving.specs.Driving.{PlanState, no_acts, driven_from, reasons_from, totals_of}
 use Rattle.driving.specs.Sized.{Sized, Kept}
 use Rattle.driving.specs.declared.Totals.{Totals}
@@ -62,24 +67,22 @@ module _ (c : Stored) (fits : Fits c) where
     from = state_with (start_buffers c) (start_desk c) no_acts
 
     stands_start : StandsFor (job_of c) (start (job_of c)) from
-    stands_start = record { holds = holds-start c fits; right = desk_right c fits; rows = refl; long_fetched = refl; long_discarded = refl; long_reasons = refl }
+    stands_start = record { holds = holds-start c fits; right = desk_right c fits; long_acts = refl }
 
     kept_start : Kept (input_with slots refs (start_steps c) rule) from
     unfolding job_of
     kept_start = record {
       held = λ d l. (let load = (holds-start c fits).loads d l in let most = (ready_start (job_of c) fits.sound).loads d l in omega (arith, load, most));
-      desk_rows = (desk_sized c fits).rows;
       small_nexts = λ b l. (let n = (desk_right c fits).long_nexts in let at = (desk_right c fits).distances b (omega (arith, n, l)) in
           let to = distance_to refs (start (job_of c)).next b (start-within (job_of c)) in let few = refs-few c fits in omega (arith, at, to, few));
       small_helds = subst (Below 512) (sym (desk-held c fits)) (λ i l. fits.small_carried i);
-      small_looks = (desk_sized c fits).within;
-      act_rows = refl;
-      small_fetched = λ d l. (let z = get_or-replicate {A = ℕ} 8 d 512 0 l in omega (arith, z));
-      small_discarded = λ d l. (let z = get_or-replicate {A = ℕ} 8 d 512 0 l in omega (arith, z));
+      small_looks = desk_within c fits;
+      long_acts = refl;
+      small_acts = All-replicate Small 8 NoneMissing tt;
     }
 
     -- The buffers, the desk and the steps as `open` gives them, and any number of rounds.
-    module _ {b : Buffers} {desk steps : List (List ℕ)} (eb : b ≡ start_buffers c) (ed : desk ≡ start_desk c) (es : steps ≡ start_steps c) (most : ℕ) where
+    module _ {b : Buffers} {desk : Desk} {steps : Steps} (eb : b ≡ start_buffers c) (ed : desk ≡ start_desk c) (es : steps ≡ start_steps c) (most : ℕ) where
       -- what `drive` asks,
       pub drive_asks : {sheet : List ℕ} → most ≤ 2048 → sheet ≡ replicate 40968 0
           → Sized (input_with slots refs steps rule) × Kept (input_with slots refs steps rule) (state_with b desk no_acts) × (most ≤ 2048) × (sheet ≡ replicate 40968 0)
@@ -95,7 +98,7 @@ module _ (c : Stored) (fits : Fits c) where
       reasoned = rw (eb, ed, es) (driven_reasons rule (job_of c) fits.sound (forward_start c fits) most (start (job_of c)) (ready_start (job_of c) fits.sound) from stands_start)
 
     -- With as many rounds as there are references it is the whole plan, for its reasons.
-    module _ {b : Buffers} {desk steps : List (List ℕ)} (eb : b ≡ start_buffers c) (ed : desk ≡ start_desk c) (es : steps ≡ start_steps c) where
+    module _ {b : Buffers} {desk : Desk} {steps : Steps} (eb : b ≡ start_buffers c) (ed : desk ≡ start_desk c) (es : steps ≡ start_steps c) where
       pub drive_gives : driven_from (input_with slots refs steps rule) c.count (state_with b desk no_acts) ≡ schedule_of (rule_of rule) (job_of c)
       unfolding job_of schedule_of plan_of
       drive_gives = driven eb ed es c.count ∙ ap (λ (n : ℕ). map (map action) (plan_from (rule_of rule) (job_of c) n (start (job_of c)))) (refs_lent c fits)

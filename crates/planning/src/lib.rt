@@ -11,8 +11,9 @@ ghost use Rattle.choosing.specs.Choosing.{rule_of};
 ghost use Rattle.choosing.specs.declared.Rule.TheVariants.{Short, Sparing};
 ghost use Rattle.planning.specs.Planning.{plans_of};
 
+use acting::Input;
 use choosing::Rule;
-use driving::Totals;
+use driving::{Output, Totals};
 use job::Job;
 use lookup::{Desk, Steps};
 
@@ -25,50 +26,40 @@ pub struct Plans {
 
 // Both plans of a job, each written as a sheet into a buffer of zeros, and the reasons of each, as far as their slices reach. The buffers, the desk
 // and the steps are made once; each plan has a desk of its own.
-pub fn run(
-    job: Job,
-    short_sheet: &mut [u8],
-    sparing_sheet: &mut [u8],
-    short_reasons: &mut [u8],
-    sparing_reasons: &mut [u8],
-) -> Plans
-    requires { Fits job × (short_sheet.old ≡ replicate 40968 0) × (sparing_sheet.old ≡ replicate 40968 0) }
-    ensures { (result ≡ plans_of (job_of job)) × (short_sheet.new ≡ bytes 40968 (sheet_bits (schedule_of (rule_of Short) (job_of job))))
-        × (sparing_sheet.new ≡ bytes 40968 (sheet_bits (schedule_of (rule_of Sparing) (job_of job))))
-        × (short_reasons.new ≡ laid (reasons_of (plan_of (rule_of Short) (job_of job))) short_reasons.old)
-        × (sparing_reasons.new ≡ laid (reasons_of (plan_of (rule_of Sparing) (job_of job))) sparing_reasons.old) }
+pub fn run(job: Job, short: &mut Output, sparing: &mut Output) -> Plans
+    requires { Fits job × (short.old.sheet.now ≡ replicate 40968 0) × (sparing.old.sheet.now ≡ replicate 40968 0) }
+    ensures planned { (result ≡ plans_of (job_of job)) × (short.new.sheet.now ≡ bytes 40968 (sheet_bits (schedule_of (rule_of Short) (job_of job))))
+        × (sparing.new.sheet.now ≡ bytes 40968 (sheet_bits (schedule_of (rule_of Sparing) (job_of job))))
+        × (short.new.reasons.now ≡ laid (reasons_of (plan_of (rule_of Short) (job_of job))) short.old.reasons.now)
+        × (sparing.new.reasons.now ≡ laid (reasons_of (plan_of (rule_of Sparing) (job_of job))) sparing.old.reasons.now) }
+    ensures same_slices { (short.new.sheet.ghost_name ≡ short.old.sheet.ghost_name) × (short.new.reasons.ghost_name ≡ short.old.reasons.ghost_name)
+        × (sparing.new.sheet.ghost_name ≡ sparing.old.sheet.ghost_name) × (sparing.new.reasons.ghost_name ≡ sparing.old.reasons.ghost_name) }
 {
-    let n = job.count;
-    let disks = job.disks;
-    let all = job.refs;
-    let every = job.slots;
-    let refs = &all[..n];
-    let slots = &every[..disks];
-    let mut desk: Desk = [[0; 512]; 4];
-    let mut steps: Steps = [[0; 2048]; 2];
-    let b = opening::open(job, &mut desk, &mut steps);
+    let slots = &job.slots[..job.disks];
+    let refs = &job.refs[..job.count];
+    let mut desk = Desk {
+        next: [0; 512],
+        later: [0; 512],
+        held: [0; 512],
+        look: [0; 512],
+    };
+    let mut steps = Steps {
+        of_block: [0; 2048],
+        of_disk: [0; 2048],
+    };
+    let b = opening::open(&job, &mut desk, &mut steps);
     let mut first = desk;
-    let short = driving::drive(
-        b,
-        n,
+    let input = Input {
         slots,
         refs,
-        Rule::Short,
-        &steps,
-        &mut first,
-        short_sheet,
-        short_reasons,
-    );
-    let sparing = driving::drive(
-        b,
-        n,
-        slots,
-        refs,
-        Rule::Sparing,
-        &steps,
-        &mut desk,
-        sparing_sheet,
-        sparing_reasons,
-    );
+        steps: &steps,
+        rule: Rule::Short,
+    };
+    let short = driving::drive(b, job.count, input, &mut first, short);
+    let input = Input {
+        rule: Rule::Sparing,
+        ..input
+    };
+    let sparing = driving::drive(b, job.count, input, &mut desk, sparing);
     Plans { short, sparing }
 }

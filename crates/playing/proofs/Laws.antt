@@ -1,12 +1,14 @@
 -- The methods of the playing state lead from states of the model to states of the model. Assumes nothing.
 use mathlib.Core.Path.{◌≡◌, refl, sym, ap, ◌∙◌}
 use mathlib.Core.Bool.{Bool, true, false, ◌&&◌}
-use mathlib.Core.List.{List, [], ◌∷◌, ◌++◌}
+use mathlib.Core.List.{List}
 use Prim.Native.Nat.{ℕ, suc, ◌+◌, ◌-◌, ◌≤◌, ◌<◌}
+use native.Mathlib.Numerals.{add-one}
 use native.Mathlib.Omega.{arith}
 use lib.Dec.{eqb}
-use lib.ListN.{length, get_or, set, take, drop, replicate, length-set, length-drop, drop_of_length-le}
-use lib.Seq.{get_or-set_same, get_or-set_other, set-set, take-suc, get_or-drop, drop-cons}
+use lib.ListN.{length, get_or, set, take, drop, length-set, length-take, drop_of_length-le}
+use lib.Seq.{get_or-set_same, get_or-set_other, set-set, take-suc, get_or-take, drop-cons}
+use Rattle.std.proofs.Common.{zero-add}
 use borrow.Author.Tests.{eq-eqb, eqb-true, eqb-false}
 use Rattle.bits.proofs.Logic.{by_test, clash}
 use Rattle.model.specs.Job.{Job, disk_count, block_count, disk_of}
@@ -19,63 +21,51 @@ use Rattle.model.proofs.Plans.{each_more}
 use Rattle.model.proofs.Carried.{marked_more, marked_all_more}
 use Rattle.job.specs.Meaning.{carried_in}
 use Rattle.playing.specs.declared.Buffers.{Buffers}
-use Rattle.playing.specs.Playing.{carrying_buffers, fetch_into, discard_from, replace_in, consume_one, read_on_from, Holds, acted, read_one}
+use Rattle.playing.specs.Playing.{fetch_into, discard_from, replace_in, consume_one, read_on_from, Holds, acted, read_one}
 
 -- The blocks carried in, marked one by one and disk by disk.
 
-pub mark-next : (marks resident : List Bool) (blocks : List ℕ) (from i : ℕ) → from + i < length blocks → resident ≡ marked marks (take i (drop from blocks))
-    → set resident (get_or blocks (from + i) 0) true ≡ marked marks (take (i + 1) (drop from blocks))
-mark-next marks resident blocks from i room h =
-    let long = length-drop from blocks in
-    ap (λ (m : List Bool). set m (get_or blocks (from + i) 0) true) h
-    ∙ sym (marked_more marks (take i (drop from blocks)) (get_or blocks (from + i) 0))
-    ∙ ap (λ (b : ℕ). marked marks (take i (drop from blocks) ++ (b ∷ []))) (sym (get_or-drop from blocks i 0))
-    ∙ ap (marked marks) (sym (take-suc (drop from blocks) i 0 (omega (arith, long))))
-    ∙ ap (λ (n : ℕ). marked marks (take n (drop from blocks))) (let e : suc i ≡ i + 1 = omega arith in e)
+pub mark_next : (marks : List Bool) (blocks : List ℕ) (i : ℕ) → i < length blocks
+    → marked marks (take (i + 1) blocks) ≡ set (marked marks (take i blocks)) (get_or blocks i 0) true
+mark_next marks blocks i l = rw (add-one i, take-suc blocks i 0 l) (marked_more marks (take i blocks) (get_or blocks i 0))
 
-pub carry_next : (held blocks : List ℕ) (d : ℕ) (before after : List Bool) → before ≡ (carrying_buffers d held blocks).resident
-    → after ≡ marked before (carried_in held blocks d) → after ≡ (carrying_buffers (d + 1) held blocks).resident
-unfolding carrying_buffers
-carry_next held blocks d before after h e =
-    e ∙ ap (λ (m : List Bool). marked m (carried_in held blocks d)) h
-    ∙ sym (marked_all_more none_resident (each (carried_in held blocks) 0 d) (carried_in held blocks d))
-    ∙ ap (marked_all none_resident) (ap (λ (n : ℕ). each (carried_in held blocks) 0 d ++ (carried_in held blocks n ∷ []))
-    (let z : d ≡ 0 + d = omega arith in z) ∙ sym (each_more (carried_in held blocks) 0 d))
-    ∙ ap (λ (n : ℕ). marked_all none_resident (each (carried_in held blocks) 0 n)) (let z : suc d ≡ d + 1 = omega arith in z)
+pub carry_next : (held blocks : List ℕ) (d : ℕ) → marked_all none_resident (each (carried_in held blocks) 0 (d + 1))
+    ≡ marked (marked_all none_resident (each (carried_in held blocks) 0 d)) (carried_in held blocks d)
+carry_next held blocks d =
+    rw (add-one d, each_more (carried_in held blocks) 0 d, zero-add d)
+    (marked_all_more none_resident (each (carried_in held blocks) 0 d) (carried_in held blocks d))
 
-pub carry_none : (held blocks : List ℕ) → replicate 512 false ≡ (carrying_buffers 0 held blocks).resident
-unfolding carrying_buffers none_resident
-carry_none held blocks = refl
-
-pub carry_all : (disks : ℕ) (held blocks : List ℕ) (resident : List Bool) → resident ≡ (carrying_buffers disks held blocks).resident
-    → record { resident = resident; held = held; next = 0 } ≡ carrying_buffers disks held blocks
-unfolding carrying_buffers
-carry_all disks held blocks resident h = λ i. record { resident = h i; held = held; next = 0 }
-
--- References that are read on.
-module _ (b : Buffers) (refs : List ℕ) where
-  pub read_one_lem : b.next < length refs → get_or b.resident (get_or refs b.next 0) false ≡ true → read_on_from (consume_one b) refs ≡ read_on_from b refs
+-- References that are read on: one that is consumed, and none where the next one's block is missing or none is left.
+module _ (b : Buffers) (refs : List ℕ) (count : ℕ) (room : count ≤ length refs) where
+  pub read_more : b.next < count → get_or b.resident (get_or refs b.next 0) false ≡ true
+      → read_on_from (consume_one b) (take count refs) ≡ read_on_from b (take count refs)
   unfolding read_on_from consume_one consumed
-  read_one_lem l here = λ i. record { resident = b.resident; held = b.held; next = next i }
+  read_more l here = λ i. record { resident = b.resident; held = b.held; next = next i }
     where
-      next : (b.next + 1) + consumed b.resident (drop (b.next + 1) refs) ≡ b.next + consumed b.resident (drop b.next refs)
+      next : (b.next + 1) + consumed b.resident (drop (b.next + 1) (take count refs)) ≡ b.next + consumed b.resident (drop b.next (take count refs))
       next =
+          let cut : b.next < length (take count refs) = omega (arith, length-take count refs) in
           let one : b.next + 1 ≡ suc b.next = omega arith in
-          rw (drop-cons refs b.next 0 l, here, one) (omega arith)
+          rw (drop-cons (take count refs) b.next 0 cut, get_or-take count refs b.next 0 l, here, one) (omega arith)
 
-  pub read-missing : b.next < length refs → get_or b.resident (get_or refs b.next 0) false ≡ false → read_on_from b refs ≡ b
+  pub read_missing : b.next < count → get_or b.resident (get_or refs b.next 0) false ≡ false → read_on_from b (take count refs) ≡ b
   unfolding read_on_from consumed
-  read-missing l out = λ i. record { resident = b.resident; held = b.held; next = next i }
+  read_missing l out = λ i. record { resident = b.resident; held = b.held; next = next i }
     where
-      next : b.next + consumed b.resident (drop b.next refs) ≡ b.next
-      next = rw (drop-cons refs b.next 0 l, out) (omega arith)
+      next : b.next + consumed b.resident (drop b.next (take count refs)) ≡ b.next
+      next =
+          let cut : b.next < length (take count refs) = omega (arith, length-take count refs) in
+          rw (drop-cons (take count refs) b.next 0 cut, get_or-take count refs b.next 0 l, out) (omega arith)
 
-  pub read_end : length refs ≤ b.next → read_on_from b refs ≡ b
+  pub read_end : count ≤ b.next → read_on_from b (take count refs) ≡ b
   unfolding read_on_from consumed
   read_end l = λ i. record { resident = b.resident; held = b.held; next = next i }
     where
-      next : b.next + consumed b.resident (drop b.next refs) ≡ b.next
-      next = rw (drop_of_length-le refs {i = b.next} l) (omega arith)
+      next : b.next + consumed b.resident (drop b.next (take count refs)) ≡ b.next
+      next = rw (drop_of_length-le (take count refs) {i = b.next} (omega (arith, length-take count refs))) (omega arith)
+
+-- what `read_on` applies
+pub ruleset reading = (read_more, read_missing, read_end)
 
 -- only marks and next read count
 pub holds_same : (j : Job) (b : Buffers) (s t : State) → s.resident ≡ t.resident → s.next ≡ t.next → Holds j b s → Holds j b t

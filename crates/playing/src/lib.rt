@@ -15,29 +15,35 @@ pub struct Buffers {
     pub next: usize,
 }
 
-// Marks `count` blocks of a list, from the place `from` on.
-fn mark(resident: &mut [bool; 512], blocks: &[u16; 512], from: usize, count: usize)
-    requires { (from + count ≤ 512) × (length blocks.now ≡ 512) × Below 512 blocks.now }
-    ensures { resident.new ≡ marked resident.old (take count (drop from blocks.now)) }
+// What a schedule takes: its rounds, and its fetches of each disk.
+#[derive(Clone, Copy)]
+pub struct Counts {
+    pub rounds: usize,
+    pub fetches: [u16; 8],
+}
+
+// Marks the blocks of a list.
+#[tactic(auto, using(crate::proofs::Laws::mark_next), unfolding(model::specs::Playing::marked))]
+fn mark(resident: &mut [bool; 512], blocks: &[u16])
+    requires { Below 512 blocks.now }
+    ensures { resident.new ≡ marked resident.old blocks.now }
 {
-    let mut i = 0;
-    while i < count {
-        resident[blocks[from + i] as usize] = true;
-        i += 1;
+    for &b in blocks {
+        resident[b as usize] = true;
     }
 }
 
 impl Buffers {
     // The blocks carried in: `held` of them on each disk, those of disk d from the place d * 64 on. Nothing is read yet.
+    #[tactic(auto, using(crate::proofs::Laws::carry_next), unfolding(crate::specs::Playing::carrying_buffers))]
     pub fn carrying(disks: usize, held: [u8; 8], blocks: &[u16; 512]) -> Self
         requires { (disks ≤ 8) × Below 65 held × (length blocks.now ≡ 512) × Below 512 blocks.now }
         ensures { result ≡ carrying_buffers disks held blocks.now }
     {
         let mut resident = [false; 512];
-        let mut d = 0;
-        while d < disks {
-            mark(&mut resident, blocks, d * 64, held[d] as usize);
-            d += 1;
+        for d in 0..disks {
+            let from = d * 64;
+            mark(&mut resident, &blocks[from..from + held[d] as usize]);
         }
         Self {
             resident,
@@ -47,6 +53,7 @@ impl Buffers {
     }
 
     // A block enters the buffer of a disk.
+    #[tactic(auto, unfolding(crate::specs::Playing::fetch_into))]
     pub fn fetch(mut self, block: usize, disk: usize) -> Self
         requires { (block < 512) × (disk < 8) × (get_or self.held disk 0 < 255) }
         ensures { result ≡ fetch_into self block disk }
@@ -57,6 +64,7 @@ impl Buffers {
     }
 
     // A block leaves the buffer of a disk.
+    #[tactic(auto, unfolding(crate::specs::Playing::discard_from))]
     pub fn discard(mut self, block: usize, disk: usize) -> Self
         requires { (block < 512) × (disk < 8) × (1 ≤ get_or self.held disk 0) }
         ensures { result ≡ discard_from self block disk }
@@ -68,6 +76,7 @@ impl Buffers {
 
     // A block takes the place of another: "the discarded block leaves, then the fetched one enters". One call for both costs one copy of the
     // state.
+    #[tactic(auto, unfolding(crate::specs::Playing::discard_from, crate::specs::Playing::replace_in))]
     pub fn replace(self, out: usize, block: usize, disk: usize) -> Self
         requires { (out < 512) × (block < 512) × (disk < 8) × (1 ≤ get_or self.held disk 0) }
         ensures { result ≡ replace_in self out block disk }
@@ -76,6 +85,7 @@ impl Buffers {
     }
 
     // One reference is consumed.
+    #[tactic(auto, unfolding(crate::specs::Playing::consume_one))]
     pub fn consume(mut self) -> Self
         requires { self.next < 2 ^ 32 }
         ensures { result ≡ consume_one self }
@@ -85,15 +95,12 @@ impl Buffers {
     }
 
     // References are consumed while the next one's block is in the buffers: "Before round 1 the suite reads as far as these allow."
+    #[tactic(auto, using(crate::proofs::Laws::reading), unfolding(crate::specs::Playing::consume_one))]
     pub fn read_on(mut self, refs: &[u16; 2048], count: usize) -> Self
         requires { (count ≤ 2048) × (length refs.now ≡ 2048) × Below 512 (take count refs.now) }
         ensures { result ≡ read_on_from self (take count refs.now) }
     {
-        while self.next < count {
-            let next = self.next;
-            if !self.resident[refs[next] as usize] {
-                break;
-            }
+        while self.next < count && self.resident[refs[self.next] as usize] {
             self = self.consume();
         }
         self

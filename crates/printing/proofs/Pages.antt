@@ -53,6 +53,9 @@ module _ (p : Place) (next disks : ℕ) where
   unfolding place_after
   after_line = by_test (eqb (p.disk + 1) disks) (λ y. rw y refl) (λ n. rw n refl)
 
+  pub line_on : {p' : Place} → p' ≡ place_after p next disks → p'.line ≡ p.line + 1
+  line_on e = ap (λ (x : Place). x.line) e ∙ after_line
+
   after_at : (place_after p next disks).at ≡ next
   unfolding place_after
   after_at = by_test (eqb (p.disk + 1) disks) (λ y. rw y refl) (λ n. rw n refl)
@@ -64,9 +67,6 @@ module _ (p : Place) (next disks : ℕ) where
   after_disk : (place_after p next disks).disk ≤ p.disk + 1
   unfolding place_after
   after_disk = by_test (eqb (p.disk + 1) disks) (λ y. rw y (omega arith)) (λ n. rw n (omega arith))
-
-  pub line_less : {next' : Place} {count : ℕ} → next' ≡ place_after p next disks → p.line < count → count - next'.line < count - p.line
-  line_less e more = let on = ap (λ (x : Place). x.line) e ∙ after_line in omega (arith, on, more)
 
 module _ {sheet reasons : List ℕ} {disks count : ℕ} {lent : List ℕ} where
   pub line_first : BeforeLine sheet reasons disks count lent lent first_place
@@ -92,7 +92,7 @@ module _ {sheet reasons : List ℕ} {disks count : ℕ} {lent : List ℕ} where
         let line = line_at sheet reasons place in
         let after = place_after place (shown_at sheet place.at).next disks in
         let left : count - place.line ≡ suc (count - (place.line + 1)) = omega arith in
-        let on = ap (λ (p : Place). p.line) en ∙ after_line place _ disks in
+        let on = line_on place _ disks en in
         let to = ap (λ (p : Place). p.at) en ∙ after_at place _ disks in
         let in-round = after-round place (shown_at sheet place.at).next disks in
         let of-disk = after_disk place (shown_at sheet place.at).next disks in

@@ -28,12 +28,11 @@ fn put_lines(page: &mut [u8], sheet: &[u8], reasons: &[u8], disks: usize, count:
         round: 1,
         disk: 0,
     };
-    while place.line < count {
-        let line = place.line;
+    for reason in &reasons[..count] {
         let shown = lines::action_at(sheet, place.at);
-        let text = lines::line_text(place.round, place.disk, shown, reasons[line] as usize);
-        put_text(page, line * 17, &text);
-        place = lines::place_after(place, shown.next, disks);
+        let text = lines::line_text(place.round, place.disk, shown, usize::from(*reason));
+        put_text(page, place.line * 17, &text);
+        place = place.after(shown.next, disks);
     }
 }
 
@@ -42,12 +41,9 @@ fn put_legend(page: &mut [u8], at: usize)
     requires { (at < 2 ^ 32) × (at + 85 ≤ length page.old) }
     ensures { page.new ≡ laid_at at (ended legend) page.old }
 {
-    let mut rule = 0;
-    while rule < 5 {
-        let line = lines::LEGEND[rule];
-        put_text(page, at + rule * 17, &line);
+    for (rule, line) in lines::LEGEND.iter().enumerate() {
+        put_text(page, at + rule * 17, line);
         put_text(page, at + rule * 17 + 16, b"\n");
-        rule += 1;
     }
 }
 

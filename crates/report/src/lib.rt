@@ -8,7 +8,9 @@ ghost use Rattle.texts.specs.Texts.{Put};
 ghost use Rattle.report.specs.Report.{disk_lines, printed};
 ghost use Rattle.report.specs.Text.{plan_text, text_of, Small};
 
-use returning::{Counts, Mark, Planned};
+use playing::Counts;
+use refusal::Refusal;
+use returning::{Mark, Planned};
 
 // The lines of the first `disks` disks.
 fn put_disks(out: &mut [u8], start: usize, fetches: [u16; 8], disks: usize) -> usize
@@ -18,11 +20,9 @@ fn put_disks(out: &mut [u8], start: usize, fetches: [u16; 8], disks: usize) -> u
     ensures few { result ≤ start + disks * 8 }
 {
     let mut at = start;
-    let mut d = 0;
-    while d < disks {
+    for (d, n) in fetches[..disks].iter().enumerate() {
         let next = texts::put_decimal(out, at, d);
-        at = texts::put_end(out, next, fetches[d] as usize);
-        d += 1;
+        at = texts::put_end(out, next, usize::from(*n));
     }
     at
 }
@@ -35,24 +35,25 @@ fn put_plan(out: &mut [u8], word: &[u8], plan: Counts, disks: usize) -> usize
     ensures text { Put 0 (plan_text word.now plan disks) out.old out.new result }
     ensures few { result ≤ 128 }
 {
-    let fetches = plan.fetches;
     let rounds = texts::put_word(out, 0, word);
     let start = texts::put_end(out, rounds, plan.rounds);
-    put_disks(out, start, fetches, disks)
+    put_disks(out, start, plan.fetches, disks)
 }
 
 // What planning gives, as text.
-fn put_planned(out: &mut [u8], planned: Planned, disks: usize) -> usize
+#[tactic(auto, unfolding(crate::specs::Text::text_of))]
+fn put_planned(out: &mut [u8], planned: Result<Planned, Refusal>, disks: usize) -> usize
     requires small { Small planned }
     requires disks_bound { disks ≤ 8 }
     ensures text { Put 0 (text_of planned disks) out.old out.new result }
     ensures few { result ≤ 128 }
 {
-    let mark = planned.mark;
-    match mark {
-        Mark::Unmarked => texts::put_refusal(out, planned.number),
-        Mark::Short => put_plan(out, b"short", planned.short, disks),
-        Mark::Sparing => put_plan(out, b"sparing", planned.sparing, disks),
+    match planned {
+        Err(refusal) => texts::put_refusal(out, refusal.number()),
+        Ok(plans) => match plans.mark {
+            Mark::Short => put_plan(out, b"short", plans.short, disks),
+            Mark::Sparing => put_plan(out, b"sparing", plans.sparing, disks),
+        },
     }
 }
 
@@ -62,10 +63,12 @@ pub fn report(ticket: &[u8], out: &mut [u8]) -> usize
     ensures count { result ≡ length (printed ticket.now) }
     ensures few { result ≤ 128 }
 {
+    let job = match ticket::read(ticket) {
+        Ok(job) => job,
+        Err(refusal) => return texts::put_refusal(out, refusal.number()),
+    };
     let mut short = [0u8; 40962];
     let mut sparing = [0u8; 40962];
-    let read = ticket::read(ticket);
-    let planned = planner::plan(ticket, read.job.count, &mut short, &mut sparing);
-    let disks = read.job.disks;
-    put_planned(out, planned, disks)
+    let planned = planner::plan(ticket, job.count, &mut short, &mut sparing);
+    put_planned(out, planned, job.disks)
 }

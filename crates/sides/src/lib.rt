@@ -15,27 +15,24 @@ pub struct Sides {
 }
 
 // A side at the end of the line that is complete, mixed with the sides before it, on the left.
-pub fn mix_side(line: &[u16], left: &mut [u16], from: Place, sides: Sides, complete: bool) -> Sides
+pub fn mix_side(line: &[u16], left: &mut [u16], from: Place, sides: Sides) -> Sides
     requires ready { Ready from line.now left.old }
     requires side_bound { (sides.side ≤ 2049) × (sides.mixed ≤ 2049) }
-    ensures counts { result ≡ sides_after complete sides }
-    ensures mixes { left.new ≡ side_mixed complete line.now from sides left.old }
+    ensures counts { result ≡ sides_after sides }
+    ensures mixes { left.new ≡ side_mixed line.now from sides left.old }
 {
-    if complete {
-        let count = sides.mixed + sides.side;
-        let begin = from.line;
-        if begin + from.left + count <= 2048 {
-            let end = begin + sides.side;
-            let top = 2048 - from.left;
-            let bottom = top - count;
-            mixing::mix(&line[begin..end], &mut left[bottom..top]);
-        }
-        return Sides {
-            side: 0,
-            mixed: mixing::cap(count),
-        };
+    let count = sides.mixed + sides.side;
+    let begin = from.line;
+    if begin + from.left + count <= 2048 {
+        let end = begin + sides.side;
+        let top = 2048 - from.left;
+        let bottom = top - count;
+        mixing::mix(&line[begin..end], &mut left[bottom..top]);
     }
-    sides
+    Sides {
+        side: 0,
+        mixed: mixing::cap(count),
+    }
 }
 
 // The sides of a note, all mixed, taken back into the line.
@@ -49,6 +46,6 @@ pub fn take_back(line: &mut [u16], left: &[u16], from: Place, mixed: usize)
         let end = begin + mixed;
         let top = 2048 - from.left;
         let bottom = top - mixed;
-        mixing::copy(&left[bottom..top], &mut line[begin..end]);
+        line[begin..end].copy_from_slice(&left[bottom..top]);
     }
 }

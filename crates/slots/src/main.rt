@@ -2,7 +2,6 @@
 // the job to be done within those rounds, or that no count is enough.
 #![tactic(auto)]
 
-use arguments::Argument;
 use std::env::{Env, FillError};
 use std::io;
 
@@ -22,12 +21,10 @@ fn answer(rt: &HostRuntime, disk: usize, wanted: usize) -> io::Result<()> {
 }
 
 // An argument as a number. One that is missing or longer than 4,096 bytes is none.
-fn argument(rt: &HostRuntime, i: usize) -> Argument {
+fn argument(rt: &HostRuntime, i: usize) -> Option<usize> {
     let mut text = [0u8; 4096];
-    match rt.arg(i, &mut text) {
-        Ok(n) => arguments::number(&text[..n]),
-        Err(_) => Argument::Malformed,
-    }
+    let n = rt.arg(i, &mut text).ok()?;
+    arguments::number(&text[..n])
 }
 
 // Whether there are no more than two arguments beside the program's name.
@@ -41,12 +38,7 @@ fn main(rt: HostRuntime) -> io::Result<()> {
     if !no_third_argument(&rt) {
         return print_usage(&rt);
     }
-    let first = argument(&rt, 1);
-    let second = argument(&rt, 2);
-    let Argument::Number(disk) = first else {
-        return print_usage(&rt);
-    };
-    let Argument::Number(wanted) = second else {
+    let (Some(disk), Some(wanted)) = (argument(&rt, 1), argument(&rt, 2)) else {
         return print_usage(&rt);
     };
     answer(&rt, disk, wanted)

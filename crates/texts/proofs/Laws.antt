@@ -27,22 +27,17 @@ put_byte at b lent = record { bytes = sym (laid_byte at b lent); next = refl }
 pub put_start : (at : ℕ) (lent : List ℕ) → Put at [] lent lent at
 put_start at lent = record { bytes = sym (laid_at_nil at lent); next = omega arith }
 
-pub put_none : (at : ℕ) (lent : List ℕ) → Put at [] lent lent (at + 0)
-put_none at lent = record { bytes = sym (laid_at_nil at lent); next = refl }
-
 pub put_then : {at : ℕ} {s t a b c : List ℕ} {m n : ℕ} → Put at s a b m → Put m t b c n → Put at (s ++ t) a c n
 put_then {at} {s} {t} {a} {b} {c} {m} {n} p q =
     let e = length-append s t in
     record { bytes = q.bytes ∙ ap (laid_at m t) p.bytes ∙ laid_then at m s t a p.next; next = let x = p.next in let y = q.next in omega (arith, e, x, y) }
 
 -- one byte more of a word
-pub put_byte_more : {at m : ℕ} {a b c : List ℕ} (i : ℕ) (word : List ℕ) → i < length word → Put at (take i word) a b (at + i) → Put (at + i) (get_or word i 0 ∷ []) b c m
-    → Put at (take (i + 1) word) a c (at + (i + 1))
-put_byte_more {at} {m} {a} {b} {c} i word h p q =
-    let n = q.next in
-    let e : m ≡ at + (i + 1) = omega (arith, n) in
+pub put_byte_more : {at m n : ℕ} {a b c : List ℕ} (i : ℕ) (word : List ℕ) → i < length word → Put at (take i word) a b m → Put m (get_or word i 0 ∷ []) b c n
+    → Put at (take (i + 1) word) a c n
+put_byte_more {at} {m} {n} {a} {b} {c} i word h p q =
     let k : suc i ≡ i + 1 = omega arith in
-    rw (← k, take-suc word i 0 h, k, ← e) (put_then p q)
+    rw (← k, take-suc word i 0 h) (put_then p q)
 
 -- a text that is known by an equation
 pub put_same : {at n : ℕ} {s t a b : List ℕ} → s ≡ t → Put at s a b n → Put at t a b n

@@ -6,15 +6,15 @@ ghost use Rattle.std.specs.Prelude.{[], ◌∷◌, ◌≤◌, ◌<◌, length};
 ghost use Rattle.model.specs.Text.{decimal};
 ghost use Rattle.texts.specs.Texts.{Put, line_end, refusal_line};
 
-// One byte.
+// One byte, by its index: what is written through a slice's `get_mut` a proof does not see.
+#[tactic(auto, using(crate::proofs::Laws::put_past, crate::proofs::Laws::put_byte))]
 pub fn put(out: &mut [u8], at: usize, byte: u8) -> usize
     requires { at < 65536 }
     ensures { Put at (byte ∷ []) out.old out.new result }
 {
-    if out.len() <= at {
-        return at + 1;
+    if at < out.len() {
+        out[at] = byte;
     }
-    out[at] = byte;
     at + 1
 }
 
@@ -24,12 +24,11 @@ pub fn put_word(out: &mut [u8], at: usize, word: &[u8]) -> usize
     requires word_len_bound { length word.now < 256 }
     ensures { Put at word.now out.old out.new result }
 {
-    let mut i = 0;
-    while i < word.len() {
-        put(out, at + i, word[i]);
-        i += 1;
+    let mut next = at;
+    for byte in word {
+        next = put(out, next, *byte);
     }
-    at + i
+    next
 }
 
 // A number in decimal digits.

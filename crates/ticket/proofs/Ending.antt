@@ -1,15 +1,16 @@
 -- What follows the references, as the ticket's reader reads it: the blocks carried in, and the closing bits. Assumes nothing.
-use mathlib.Core.Path.{◌≡◌, refl, sym, ap, ◌∙◌}
+use mathlib.Core.Path.{◌≡◌, ap, ◌∙◌}
 use mathlib.Core.Bool.{true, false}
 use mathlib.Core.List.{List, [], map}
 use Prim.Native.Nat.{ℕ, ◌+◌, ◌≤◌}
 use native.Mathlib.Omega.{arith}
 use lib.ListN.{length, drop, replicate, length-map}
-use borrow.Author.Tests.{eq-eqb, ne_eqb}
+use Rattle.std.specs.Prelude.{Ok, Err}
+use Rattle.refusal.specs.declared.Refusal.{Refusal}
+use Rattle.refusal.specs.Refusals.{number}
 use Rattle.bits.specs.Bits.{bits, Below}
 use Rattle.bits.specs.Reading.{Read, got, stop, Reader, ◌>>=◌, ◌>>◌, give, is_closed, closing}
 use Rattle.bits.proofs.Bits.{bits_are, drop_bits}
-use Rattle.bits.proofs.Logic.{by_test}
 use Rattle.bits.proofs.Reading.{bind_ok, bind-stop, then_ok, then_stop, closing_open, closing-closed}
 use Rattle.model.specs.Job.{Job}
 use Rattle.model.specs.Ticket.{carried_fields}
@@ -17,34 +18,17 @@ use Rattle.model.proofs.CarriedFields.{fields_wrote}
 use Rattle.job.specs.Meaning.{pad_to, rows_of}
 use Rattle.job.proofs.Laws.{sets_zeros}
 use Rattle.carried.specs.Carried.{Carried, carried_parts}
-use Rattle.entries.specs.declared.Part.{Part}
 use Rattle.carried.proofs.Rows.{rows_written}
 use Rattle.carried.proofs.CarriedParts.{AllRead, complete, ended, all_read}
-use Rattle.ticket.specs.Ending.{end_number}
-
--- the number, by what was read and the closing bits
-
-module _ (t : List ℕ) {p q : Part} (e : p ≡ q) where
-  pub end_number-refused : (p.number ≡ 0 → ⊥) → p.number ≡ end_number t q
-  unfolding end_number
-  end_number-refused z = rw (← e, ne_eqb p.number 0 z) refl
-
-  pub end_number_open : p.number ≡ 0 → is_closed (drop p.next (bits t)) ≡ false → 8 ≡ end_number t q
-  unfolding end_number
-  end_number_open z c = rw (← e, eq-eqb p.number 0 z, c) refl
-
-  pub end_number-closed : p.number ≡ 0 → is_closed (drop p.next (bits t)) ≡ true → 0 ≡ end_number t q
-  unfolding end_number
-  end_number-closed z c = rw (← e, eq-eqb p.number 0 z, c) refl
 
 -- where the parts of all disks were read, the last one ends within 8 * 583 bits
-pub all_near : (t disks : List ℕ) (at : ℕ) (slots held table : List ℕ) {p : Part} → Below 65 slots → length slots ≤ 8
-    → p ≡ (carried_parts t disks at 0 slots held table).part → p.number ≡ 0 → p.next ≤ at + 4664
-all_near t disks at slots held table {p} small few e z = go (all_read t disks at 0 slots held table small) e
+pub all_near : (t disks : List ℕ) (at : ℕ) (slots held table : List ℕ) {next : ℕ} → Below 65 slots → length slots ≤ 8
+    → (carried_parts t disks at 0 slots held table).next ≡ Ok next → next ≤ at + 4664
+all_near t disks at slots held table {next} small few e = go (all_read t disks at 0 slots held table small) e
   where
-    go : {c : Carried} {l : Read (List (List ℕ))} → AllRead t at 0 slots held table l c → p ≡ c.part → p.next ≤ at + 4664
-    go (complete lists count next near g) q = let n = ap (λ (x : Part). x.next) q in omega (arith, n, near, few)
-    go (ended r some left b g) q = let m = ap (λ (x : Part). x.number) q in absurd (omega (arith, m, b, z))
+    go : {c : Carried} {l : Read (List (List ℕ))} → AllRead t at 0 slots held table l c → c.next ≡ Ok next → next ≤ at + 4664
+    go (complete lists last near g) q = let n : last ≡ next = cc in omega (arith, n, near, few)
+    go (ended r some left g) q = absurd (let z : ◌≡◌ {A = ℕ} 0 1 = cc in omega arith)
 
 -- The reader of what follows, which has the rest of the job already.
 
@@ -71,39 +55,46 @@ module _ (t slots disks refs : List ℕ) (at : ℕ) (small : Below 65 slots) whe
   beside : Beside (end_part t slots disks at)
   beside = all_read t disks at 0 slots (replicate 8 0) (replicate 512 0) small
 
-  pub end_stop : {n : ℕ} → n ≡ end_number t (end_part t slots disks at).part → (n ≡ 0 → ⊥) → end_reader slots disks refs (drop at (bits t)) ≡ stop n
-  end_stop {n} e z = go beside e
+  pub end_stop : {r : Refusal} → (end_part t slots disks at).next ≡ Err r → end_reader slots disks refs (drop at (bits t)) ≡ stop (number r)
+  end_stop {r} e = go beside e
     where
-      go : {c : Carried} → Beside c → n ≡ end_number t c.part → end_reader slots disks refs (drop at (bits t)) ≡ stop n
-      go (complete lists count next near g) q =
-          by_test (is_closed (drop next (bits t)))
-          (λ c. absurd (z (q ∙ sym (end_number-closed t refl refl c))))
-          (λ c. bind_ok (carried_fields disks 0 slots) _ _ g ∙ then_stop (closing 8) _ _ (closing_open 8 (drop next (bits t)) c)
-          ∙ ap stop (end_number_open t refl refl c ∙ sym q))
-      go (ended r some left b g) q =
-          bind-stop (carried_fields disks 0 slots) _ _ g ∙ ap stop (end_number-refused t refl (λ y. omega (arith, y, b)) ∙ sym q)
+      go : {c : Carried} → Beside c → c.next ≡ Err r → end_reader slots disks refs (drop at (bits t)) ≡ stop (number r)
+      go (complete lists next near g) q = absurd (let z : ◌≡◌ {A = ℕ} 0 1 = cc in omega arith)
+      go (ended s some left g) q =
+          let same : s ≡ r = cc in bind-stop (carried_fields disks 0 slots) _ _ g ∙ ap (λ (x : Refusal). stop (number x)) same
 
-  pub end_got : {n : ℕ} {held table : List ℕ} → length slots ≤ 8 → length disks ≤ 512 → n ≡ end_number t (end_part t slots disks at).part
-      → held ≡ (end_part t slots disks at).held → table ≡ (end_part t slots disks at).table → n ≡ 0 → Ended t slots disks refs at held table
-  unfolding give
-  end_got {n} {held} {table} few known e h s z = go beside e h s
+  pub end_open : {next : ℕ} → (end_part t slots disks at).next ≡ Ok next → is_closed (drop next (bits t)) ≡ false
+      → end_reader slots disks refs (drop at (bits t)) ≡ stop 8
+  end_open {next} e c = go beside e
     where
-      go : {c : Carried} → Beside c → n ≡ end_number t c.part → held ≡ c.held → table ≡ c.table → Ended t slots disks refs at held table
-      go (complete lists count next near g) q h s =
+      go : {x : Carried} → Beside x → x.next ≡ Ok next → end_reader slots disks refs (drop at (bits t)) ≡ stop 8
+      go (complete lists last near g) q =
+          let same : last ≡ next = cc in
+          bind_ok (carried_fields disks 0 slots) _ _ g
+          ∙ then_stop (closing 8) _ _ (closing_open 8 (drop last (bits t)) (ap (λ (k : ℕ). is_closed (drop k (bits t))) same ∙ c))
+      go (ended s some left g) q = absurd (let z : ◌≡◌ {A = ℕ} 0 1 = cc in omega arith)
+
+  pub end_got : {next : ℕ} {held table : List ℕ} → length slots ≤ 8 → length disks ≤ 512 → (end_part t slots disks at).next ≡ Ok next
+      → held ≡ (end_part t slots disks at).held → table ≡ (end_part t slots disks at).table → is_closed (drop next (bits t)) ≡ true
+      → Ended t slots disks refs at held table
+  unfolding give
+  end_got {next} {held} {table} few known e h s c = go beside e h s
+    where
+      go : {x : Carried} → Beside x → x.next ≡ Ok next → held ≡ x.held → table ≡ x.table → Ended t slots disks refs at held table
+      go (complete lists last near g) q h s =
+          let same : last ≡ next = cc in
           let wrote = fields_wrote disks known 0 slots (drop at (bits t)) (drop_bits at (bits t) (bits_are t)) g in
           let long = wrote.0 in
           let counted = length-map lists length in
-          by_test (is_closed (drop next (bits t)))
-          (λ c. record {
+          record {
             lists = lists;
             counts = h ∙ sets_zeros 8 (map length lists) (omega (arith, long, counted, few));
             rows =
                 s
                 ∙ rows_written lists (omega (arith, long, few))
                 (λ d l. let fits = wrote.1 d in let most = small d (omega (arith, l, long)) in omega (arith, fits, most));
-            gives = bind_ok (carried_fields disks 0 slots) _ _ g ∙ then_ok (closing 8) _ _ (closing-closed 8 (drop next (bits t)) c);
-          })
-          (λ c. let eight = q ∙ sym (end_number_open t refl refl c) in absurd (omega (arith, eight, z)))
-      go (ended r some left b g) q h s =
-          let same = q ∙ sym (end_number-refused t refl (λ y. omega (arith, y, b))) in
-          absurd (omega (arith, same, b, z))
+            gives =
+                bind_ok (carried_fields disks 0 slots) _ _ g
+                ∙ then_ok (closing 8) _ _ (closing-closed 8 (drop last (bits t)) (ap (λ (k : ℕ). is_closed (drop k (bits t))) same ∙ c));
+          }
+      go (ended r some left g) q h s = absurd (let z : ◌≡◌ {A = ℕ} 0 1 = cc in omega arith)

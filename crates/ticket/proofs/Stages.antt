@@ -7,16 +7,20 @@ use native.Mathlib.Omega.{arith}
 use lib.Dec.{ltb, leb, eqb, lit<, lit≤}
 use lib.ListN.{take, drop, replicate}
 use borrow.Author.Tests.{lt-ltb, ltb-true, eq-eqb, eqb-true}
+use Rattle.std.specs.Prelude.{Ok, Err, true, false}
+use Rattle.refusal.specs.declared.Refusal.{Refusal}
+use Rattle.refusal.specs.declared.Refusal.TheVariants.{TicketClosing}
+use Rattle.refusal.specs.Refusals.{number}
+use Rattle.refusal.proofs.Numbers.{refusal_of-number}
 use Rattle.bits.specs.Bits.{bits}
-use Rattle.bits.specs.Reading.{stop, Reader, ◌>>=◌, ◌>>◌, give, field, refuse_if, many, answer, read_all}
+use Rattle.bits.specs.Reading.{stop, Reader, ◌>>=◌, ◌>>◌, give, field, refuse_if, many, answer, read_all, is_closed}
 use Rattle.bits.proofs.Reading.{read_all_ok}
 use Rattle.bits.proofs.Logic.{same_test}
 use Rattle.model.specs.Job.{Job}
 use Rattle.model.specs.Ticket.{slots_field, disk_field, ref_field, ticket_reader, ticket_of}
 use Rattle.job.specs.Meaning.{stored}
-use Rattle.ticket.specs.Meaning.{no_ticket, answer_of, ticket_read}
+use Rattle.ticket.specs.Meaning.{answer_of, ticket_read}
 use Rattle.ticket.specs.Rows.{disks_row, slots_row, blocks_row, disk_row, refs_row, ref_row}
-use Rattle.ticket.specs.Ending.{end_number}
 use Rattle.entries.specs.Parts.{of_row, Filled, part_at}
 use Rattle.carried.specs.Carried.{Carried}
 use Rattle.entries.specs.declared.Row.{Row}
@@ -24,7 +28,7 @@ use Rattle.entries.specs.declared.Part.{Part}
 use Rattle.entries.proofs.Entries.{entry_reads, any_test}
 use Rattle.entries.proofs.Parts.{Reads, row_reads, PartRead, part_reads}
 use Rattle.ticket.proofs.Tables.{Got, part-got, part-stop, got_lent}
-use Rattle.ticket.proofs.Ending.{end_reader, end_part, end_stop, end_got}
+use Rattle.ticket.proofs.Ending.{end_reader, end_part, end_stop, end_open, end_got}
 
 -- the tests of the readers are those of the rows
 
@@ -37,15 +41,15 @@ some_test k v =
 
 slots_reads : (t : List ℕ) → Reads t (of_row t slots_row) 65 (λ k least. many k slots_field)
 unfolding slots_field
-slots_reads t = row_reads t slots_row slots_field (lit≤ tt) λ at. entry_reads t at slots_row (λ v. eqb v 0 || ltb 64 v) give (lit< tt) (some_test 65)
+slots_reads t = row_reads t slots_row slots_field λ at. entry_reads t at slots_row (λ v. eqb v 0 || ltb 64 v) give (lit< tt) (some_test 65)
 
 disk_reads : (t : List ℕ) (d : ℕ) → Reads t (of_row t (disk_row d)) d (λ k least. many k (disk_field d))
 unfolding disk_field
-disk_reads t d = row_reads t (disk_row d) (disk_field d) (lit≤ tt) λ at. entry_reads t at (disk_row d) (λ v. leb d v) give (lit< tt) (any_test d)
+disk_reads t d = row_reads t (disk_row d) (disk_field d) λ at. entry_reads t at (disk_row d) (λ v. leb d v) give (lit< tt) (any_test d)
 
 ref_reads : (t : List ℕ) (b : ℕ) → Reads t (of_row t (ref_row b)) b (λ k least. many k (ref_field b))
 unfolding ref_field
-ref_reads t b = row_reads t (ref_row b) (ref_field b) (lit≤ tt) λ at. entry_reads t at (ref_row b) (λ v. leb b v) give (lit< tt) (any_test b)
+ref_reads t b = row_reads t (ref_row b) (ref_field b) λ at. entry_reads t at (ref_row b) (λ v. leb b v) give (lit< tt) (any_test b)
 
 -- what is read after each part
 
@@ -74,21 +78,21 @@ module _ (t : List ℕ) where
   unfolding ticket_reader
   slots-part =
       part_reads t 0 disks_row (of_row t slots_row) 65 0 (replicate 8 0) (λ v. eqb v 0 || ltb 8 v) (λ k least. many k slots_field) after_slots _
-      (lit< tt) (some_test 9) (lit≤ tt) (λ n l. refl) (slots_reads t)
+      (lit< tt) (some_test 9) (λ n l. refl) (slots_reads t)
 
   disks-part : (at d : ℕ) (slots : List ℕ)
       → PartRead t at blocks_row 3 d 0 (replicate 512 0) (after_disks slots) (after_slots d slots (drop at (bits t))) (disks_part t at (disk_row d))
   disks-part at d slots =
       part_reads t at blocks_row (of_row t (disk_row d)) d 0 (replicate 512 0) (λ v. eqb v 0 || ltb 512 v)
       (λ k least. many k (disk_field d)) (after_disks slots) _
-      (lit< tt) (some_test 513) (lit≤ tt) (λ n l. refl) (disk_reads t d)
+      (lit< tt) (some_test 513) (λ n l. refl) (disk_reads t d)
 
   refs-part : (at b : ℕ) (slots disks : List ℕ)
       → PartRead t at refs_row 9 b 0 (replicate 2048 0) (after_refs slots disks) (after_disks slots b disks (drop at (bits t)))
       (refs_part t at (ref_row b))
   refs-part at b slots disks =
       part_reads t at refs_row (of_row t (ref_row b)) b 0 (replicate 2048 0) (λ v. ltb 2048 v) (λ k least. many k (ref_field b)) (after_refs slots disks) _
-      (lit< tt) (any_test 2049) (lit≤ tt) (λ n l. refl) (ref_reads t b)
+      (lit< tt) (any_test 2049) (λ n l. refl) (ref_reads t b)
 
   -- each part, read
   abbrev pub Slots : Part → List ℕ → Type 0
@@ -103,103 +107,99 @@ module _ (t : List ℕ) where
       Got t q.next refs_row 9 q.count 2048 (after_refs slots values) (after_disks slots q.count values (drop q.next (bits t))) r refs
 
   -- a refusal by the reader
-  stopped : (n : ℕ) → ticket_reader (bits t) ≡ stop n → ticket_read t ≡ no_ticket n
+  stopped : (r : Refusal) → ticket_reader (bits t) ≡ stop (number r) → ticket_read t ≡ Err r
   unfolding ticket_read answer_of ticket_of read_all answer
-  stopped n e = ap (λ x. answer_of (answer x)) e
+  stopped r e = ap (λ x. answer_of (answer x)) e ∙ ap Err (refusal_of-number r)
 
-  pub slots-got : {p : Part} {slots : List ℕ} → p ≡ (slots_part t).part → slots ≡ (slots_part t).table
-      → p.number ≡ 0 → Slots p slots
-  slots-got q s z = part-got t 0 disks_row 7 65 8 after_slots (ticket_reader (bits t)) (lit≤ tt) slots-part q s z
+  pub slots-got : {p : Part} {slots : List ℕ} → (slots_part t).part ≡ Ok p → slots ≡ (slots_part t).table → Slots p slots
+  slots-got e s = part-got t 0 disks_row 7 65 8 after_slots (ticket_reader (bits t)) (lit≤ tt) slots-part e s
 
-  pub slots-refused : {p : Part} → p ≡ (slots_part t).part → (p.number ≡ 0 → ⊥) → ticket_read t ≡ no_ticket p.number
-  slots-refused {p} q z = stopped p.number (part-stop t 0 disks_row 7 65 8 after_slots (ticket_reader (bits t)) slots-part q z)
+  pub slots-refused : {r : Refusal} → (slots_part t).part ≡ Err r → ticket_read t ≡ Err r
+  slots-refused e = stopped _ (part-stop t 0 disks_row 7 65 8 after_slots (ticket_reader (bits t)) slots-part e)
 
-  module _ (p : Part) (slots : List ℕ) (a : Slots p slots) (row : Row) (is : row ≡ disk_row p.count) where
-    pub disks_got : {q : Part} {disk : List ℕ} → q ≡ (disks_part t p.next row).part
-        → disk ≡ (disks_part t p.next row).table → q.number ≡ 0 → Disks p a.values q disk
-    disks_got e s z =
+  module _ {p : Part} {slots : List ℕ} (a : Slots p slots) {row : Row} (is : row ≡ disk_row p.count) where
+    pub disks_got : {q : Part} {disk : List ℕ} → (disks_part t p.next row).part ≡ Ok q → disk ≡ (disks_part t p.next row).table → Disks p a.values q disk
+    disks_got e s =
         part-got t p.next blocks_row 3 p.count 512 (after_disks a.values) _ (lit≤ tt) (disks-part p.next p.count a.values)
-        (e ∙ ap (λ (x : Row). (disks_part t p.next x).part) is)
-        (s ∙ ap (λ (x : Row). (disks_part t p.next x).table) is) z
+        (ap (λ (x : Row). (disks_part t p.next x).part) (sym is) ∙ e)
+        (s ∙ ap (λ (x : Row). (disks_part t p.next x).table) is)
 
-    pub disks_refused : {q : Part} → q ≡ (disks_part t p.next row).part → (q.number ≡ 0 → ⊥) → ticket_read t ≡ no_ticket q.number
-    disks_refused {q} e z =
-        stopped q.number
+    pub disks_refused : {r : Refusal} → (disks_part t p.next row).part ≡ Err r → ticket_read t ≡ Err r
+    disks_refused e =
+        stopped _
         (a.goes
         ∙ part-stop t p.next blocks_row 3 p.count 512 (after_disks a.values) _ (disks-part p.next p.count a.values)
-        (e ∙ ap (λ (x : Row). (disks_part t p.next x).part) is) z)
+        (ap (λ (x : Row). (disks_part t p.next x).part) (sym is) ∙ e))
 
-  module _ (p : Part) (slots : List ℕ) (a : Slots p slots) (q : Part) (disk : List ℕ) (b : Disks p a.values q disk)
-      (row : Row) (is : row ≡ ref_row q.count) where
-    pub refs-got : {r : Part} {refs : List ℕ} → r ≡ (refs_part t q.next row).part
-        → refs ≡ (refs_part t q.next row).table → r.number ≡ 0 → Refs a.values q b.values r refs
-    refs-got e s z =
+  module _ {p : Part} {slots : List ℕ} (a : Slots p slots) {q : Part} {disk : List ℕ} (b : Disks p a.values q disk)
+      {row : Row} (is : row ≡ ref_row q.count) where
+    pub refs-got : {r : Part} {refs : List ℕ} → (refs_part t q.next row).part ≡ Ok r → refs ≡ (refs_part t q.next row).table
+        → Refs a.values q b.values r refs
+    refs-got e s =
         part-got t q.next refs_row 9 q.count 2048 (after_refs a.values b.values) _ (lit≤ tt)
         (refs-part q.next q.count a.values b.values)
-        (e ∙ ap (λ (x : Row). (refs_part t q.next x).part) is)
-        (s ∙ ap (λ (x : Row). (refs_part t q.next x).table) is) z
+        (ap (λ (x : Row). (refs_part t q.next x).part) (sym is) ∙ e)
+        (s ∙ ap (λ (x : Row). (refs_part t q.next x).table) is)
 
-    pub refs-refused : {r : Part} → r ≡ (refs_part t q.next row).part → (r.number ≡ 0 → ⊥) → ticket_read t ≡ no_ticket r.number
-    refs-refused {r} e z =
-        stopped r.number
+    pub refs-refused : {r : Refusal} → (refs_part t q.next row).part ≡ Err r → ticket_read t ≡ Err r
+    refs-refused e =
+        stopped _
         (a.goes ∙ b.goes
         ∙ part-stop t q.next refs_row 9 q.count 2048 (after_refs a.values b.values) _
         (refs-part q.next q.count a.values b.values)
-        (e ∙ ap (λ (x : Row). (refs_part t q.next x).part) is) z)
+        (ap (λ (x : Row). (refs_part t q.next x).part) (sym is) ∙ e))
 
-  module _ (p : Part) (slots : List ℕ) (a : Slots p slots) (q : Part) (disk : List ℕ) (b : Disks p a.values q disk)
-      (r : Part) (refs : List ℕ) (c : Refs a.values q b.values r refs) where
+  module _ {p : Part} {slots : List ℕ} (a : Slots p slots) {q : Part} {disk : List ℕ} (b : Disks p a.values q disk)
+      {r : Part} {refs : List ℕ} (c : Refs a.values q b.values r refs) where
     ends : ticket_reader (bits t) ≡ after_refs a.values b.values r.count c.values (drop r.next (bits t))
     ends = a.goes ∙ b.goes ∙ c.goes
 
     -- what is read of the lent slots and disks
-    lent_part : end_part t (take p.count slots) (take q.count disk) r.next ≡ end_part t a.values b.values r.next
-    lent_part = ap₂ (λ (x y : List ℕ). end_part t x y r.next) (got_lent a) (got_lent b)
+    abbrev pub lent_end : Carried
+    lent_end = end_part t (take p.count slots) (take q.count disk) r.next
 
-    pub end_refused : {n : ℕ} → n ≡ end_number t (end_part t (take p.count slots) (take q.count disk) r.next).part → (n ≡ 0 → ⊥)
-        → ticket_read t ≡ no_ticket n
-    end_refused {n} e z =
-        stopped n
-        (ends ∙ end_stop t a.values b.values c.values r.next a.small (e ∙ ap (λ (x : Carried). end_number t x.part) lent_part) z)
+    lent_part : end_part t a.values b.values r.next ≡ lent_end
+    lent_part = sym (ap₂ (λ (x y : List ℕ). end_part t x y r.next) (got_lent a) (got_lent b))
 
-    pub accepted : {n : ℕ} {held carried : List ℕ} → n ≡ end_number t (end_part t (take p.count slots) (take q.count disk) r.next).part
-        → held ≡ (end_part t (take p.count slots) (take q.count disk) r.next).held
-        → carried ≡ (end_part t (take p.count slots) (take q.count disk) r.next).table → n ≡ 0
-        → ticket_read t ≡ record {
-          number = 0;
-          job = record {
-            disks = p.count;
-            slots = slots;
-            blocks = q.count;
-            disk = disk;
-            count = r.count;
-            refs = refs;
-            held = held;
-            carried = carried;
-          };
-        }
+    pub end_refused : {n : Refusal} → lent_end.next ≡ Err n → ticket_read t ≡ Err n
+    end_refused e =
+        stopped _ (ends ∙ end_stop t a.values b.values c.values r.next a.small (ap (λ (x : Carried). x.next) lent_part ∙ e))
+
+    pub end_closing : {next : ℕ} → lent_end.next ≡ Ok next → is_closed (drop next (bits t)) ≡ false → ticket_read t ≡ Err TicketClosing
+    end_closing e k =
+        stopped TicketClosing (ends ∙ end_open t a.values b.values c.values r.next a.small (ap (λ (x : Carried). x.next) lent_part ∙ e) k)
+
+    pub accepted : {next : ℕ} {held carried : List ℕ} → lent_end.next ≡ Ok next → held ≡ lent_end.held → carried ≡ lent_end.table
+        → is_closed (drop next (bits t)) ≡ true
+        → ticket_read t ≡ Ok (record {
+          disks = p.count;
+          slots = slots;
+          blocks = q.count;
+          disk = disk;
+          count = r.count;
+          refs = refs;
+          held = held;
+          carried = carried;
+        })
     unfolding ticket_read answer_of ticket_of stored
-    accepted e h s z =
+    accepted e h s k =
         let d = a.long in
         let least = a.below in
-        let k = b.long in
+        let n = b.long in
         let most = b.below in
         let end =
-        end_got t a.values b.values c.values r.next a.small (omega (arith, d, least)) (omega (arith, k, most))
-        (e ∙ ap (λ (x : Carried). end_number t x.part) lent_part) (h ∙ ap (λ (x : Carried). x.held) lent_part)
-        (s ∙ ap (λ (x : Carried). x.table) lent_part) z
+        end_got t a.values b.values c.values r.next a.small (omega (arith, d, least)) (omega (arith, n, most))
+        (ap (λ (x : Carried). x.next) lent_part ∙ e) (h ∙ ap (λ (x : Carried). x.held) (sym lent_part))
+        (s ∙ ap (λ (x : Carried). x.table) (sym lent_part)) k
         in
         ap answer_of (read_all_ok ticket_reader t (ends ∙ end.gives))
-        ∙ (λ i. record {
-          number = 0;
-          job = record {
-            disks = a.long i;
-            slots = sym a.held i;
-            blocks = b.long i;
-            disk = sym b.held i;
-            count = c.long i;
-            refs = sym c.held i;
-            held = sym end.counts i;
-            carried = sym end.rows i;
-          };
-        })
+        ∙ (λ i. Ok (record {
+          disks = a.long i;
+          slots = sym a.held i;
+          blocks = b.long i;
+          disk = sym b.held i;
+          count = c.long i;
+          refs = sym c.held i;
+          held = sym end.counts i;
+          carried = sym end.rows i;
+        }))

@@ -4,6 +4,9 @@ use mathlib.Core.List.{List}
 use Prim.Native.Nat.{ℕ, ◌+◌, ◌*◌, ◌≤◌, ◌<◌}
 use native.Mathlib.Omega.{arith}
 use lib.ListN.{length, take, drop, replicate, length-append}
+use Rattle.std.specs.Prelude.{Ok, Err}
+use Rattle.refusal.specs.declared.Refusal.{Refusal}
+use Rattle.refusal.specs.Refusals.{number}
 use Rattle.bits.specs.Bits.{bits, Below}
 use Rattle.bits.specs.Reading.{Read, stop, Reader}
 use Rattle.job.specs.Meaning.{pad_to}
@@ -28,9 +31,10 @@ pub record Got {A : Type 0} (t : List ℕ) (at : ℕ) (counts : Row) (width limi
 module _ {A : Type 0} (t : List ℕ) (at : ℕ) (counts : Row) (width limit size : ℕ) (more : ℕ → List ℕ → Reader A) (l : Read A) where
   pub part-got : {f : Filled} {p : Part} {table : List ℕ} → counts.limit ≤ size + 1
       → PartRead t at counts width limit 0 (replicate size 0) more l f
-      → p ≡ f.part → table ≡ f.table → p.number ≡ 0 → Got t at counts width limit size more l p table
-  part-got {p = p} {table = table} h (whole count next vs least below len small pos e) q s z =
-      subst₂ (λ (x : Part) (y : List ℕ). Got t at counts width limit size more l x y) (sym q) (sym s)
+      → f.part ≡ Ok p → table ≡ f.table → Got t at counts width limit size more l p table
+  part-got {p = p} {table = table} h (whole count next vs least below len small pos e) q s =
+      let same : record { count = count; next = next } ≡ p = cc in
+      subst₂ (λ (x : Part) (y : List ℕ). Got t at counts width limit size more l x y) same (sym s)
       (record {
         values = vs;
         least = least;
@@ -41,12 +45,11 @@ module _ {A : Type 0} (t : List ℕ) (at : ℕ) (counts : Row) (width limit size
         held = sets_zeros size vs (omega arith);
         goes = e;
       })
-  part-got h (broken n left b e) q s z = let m = ap (λ (x : Part). x.number) q in absurd (omega (arith, m, b, z))
+  part-got h (broken r left e) q s = absurd (let z : ◌≡◌ {A = ℕ} 0 1 = cc in omega arith)
 
-  pub part-stop : {f : Filled} {p : Part} → PartRead t at counts width limit 0 (replicate size 0) more l f → p ≡ f.part → (p.number ≡ 0 → ⊥)
-      → l ≡ stop p.number
-  part-stop (whole count next vs least below len small pos e) q z = absurd (z (ap (λ (x : Part). x.number) q))
-  part-stop (broken n left b e) q z = e ∙ ap stop (sym (ap (λ (x : Part). x.number) q))
+  pub part-stop : {f : Filled} {r : Refusal} → PartRead t at counts width limit 0 (replicate size 0) more l f → f.part ≡ Err r → l ≡ stop (number r)
+  part-stop (whole count next vs least below len small pos e) q = absurd (let z : ◌≡◌ {A = ℕ} 0 1 = cc in omega arith)
+  part-stop {r = r} (broken s left e) q = let same : s ≡ r = cc in e ∙ ap (λ (x : Refusal). stop (number x)) same
 
 -- as many entries of the table as the count says: they are there, and are those that the reader has
 module _ {A : Type 0} {t : List ℕ} {at : ℕ} {counts : Row} {width limit size : ℕ} {more : ℕ → List ℕ → Reader A} {l : Read A} {p : Part}

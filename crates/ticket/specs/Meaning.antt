@@ -1,31 +1,32 @@
--- What reading a ticket gives, and the number of a ticket and a stop. Assumes nothing.
-use Rattle.std.specs.Prelude.{cond, List, [], ℕ, ltb, eqb}
+-- What reading a ticket gives, and reading it up to a stop. Assumes nothing.
+use Rattle.std.specs.Prelude.{cond, Result, Ok, Err, List, ℕ, ltb}
+use Rattle.refusal.specs.declared.Refusal.{Refusal}
+use Rattle.refusal.specs.declared.Refusal.TheVariants.{Stop}
+use Rattle.refusal.specs.Refusals.{refusal_of}
 use Rattle.bits.specs.Reading.{Answer, given, refused}
-use Rattle.model.specs.Job.{Job}
+use Rattle.model.specs.Job.{Job, ref_count}
 use Rattle.model.specs.Ticket.{ticket_of}
-use Rattle.job.specs.Meaning.{stored}
-use Rattle.ticket.specs.declared.Ticket.{Ticket}
+use Rattle.job.specs.Meaning.{stored, counting}
+use Rattle.job.specs.declared.Job.{Job as Stored}
 
--- A job by value where there is none: every count and entry is 0.
-abbrev pub no_job : Job
-no_job = record { slots = []; block_disks = []; refs = []; carried = [] }
-
--- A ticket that is refused with n.
-unfoldable pub no_ticket : ℕ → Ticket
+-- The value of an answer: the job, or the refusal.
+unfoldable pub answer_of : Answer Job → Result Stored Refusal
 unfolding stored
-no_ticket n = record { number = n; job = stored no_job }
-
--- The value of an answer: 0 with the job, or the number of the refusal.
-unfoldable pub answer_of : Answer Job → Ticket
-unfolding stored no_ticket
-answer_of (given j) = record { number = 0; job = stored j }
-answer_of (refused n) = no_ticket n
+answer_of (given j) = Ok (stored j)
+answer_of (refused n) = Err (refusal_of n)
 
 -- A ticket, read.
-unfoldable pub ticket_read : List ℕ → Ticket
+unfoldable pub ticket_read : List ℕ → Result Stored Refusal
 unfolding answer_of
 ticket_read t = answer_of (ticket_of t)
 
--- L5: "21, the stop is above N, tested after 8": the number of a ticket with that number and N references, and a stop.
-unfoldable pub stop_number : ℕ → ℕ → ℕ → ℕ
-stop_number number references stop = cond (eqb number 0) (cond (ltb references stop) 21 0) number
+-- The value of an answer up to a stop: the job with the stop as its count, or the refusal. L5: "21, the stop is above N, tested after 8".
+unfoldable pub answer_up_to : ℕ → Answer Job → Result Stored Refusal
+unfolding stored counting
+answer_up_to stop (given j) = cond (ltb (ref_count j) stop) (Err Stop) (Ok (counting stop (stored j)))
+answer_up_to stop (refused n) = Err (refusal_of n)
+
+-- A ticket, read up to a stop.
+unfoldable pub job_read_up_to : List ℕ → ℕ → Result Stored Refusal
+unfolding answer_up_to
+job_read_up_to t stop = answer_up_to stop (ticket_of t)

@@ -1,21 +1,22 @@
--- The rows of document 01's table of ticket fields, each with the number that refuses other values. Assumes nothing.
+-- The rows of document 01's table of ticket fields, each with the refusal of other values. Assumes nothing.
 use Rattle.std.specs.Prelude.{ℕ}
+use Rattle.refusal.specs.declared.Refusal.TheVariants.{TicketDisks, TicketSlots, TicketBlocks, TicketBlockDisk, TicketReferences, TicketReference}
 use Rattle.entries.specs.declared.Row.{Row}
 
 abbrev pub disks_row : Row
-disks_row = record { width = 4; least = 1; limit = 9; number = 2 }
+disks_row = record { width = 4; least = 1; limit = 9; refusal = TicketDisks }
 
 abbrev pub slots_row : Row
-slots_row = record { width = 7; least = 1; limit = 65; number = 3 }
+slots_row = record { width = 7; least = 1; limit = 65; refusal = TicketSlots }
 
 abbrev pub blocks_row : Row
-blocks_row = record { width = 10; least = 1; limit = 513; number = 4 }
+blocks_row = record { width = 10; least = 1; limit = 513; refusal = TicketBlocks }
 
 abbrev pub disk_row : ℕ → Row
-disk_row disks = record { width = 3; least = 0; limit = disks; number = 5 }
+disk_row disks = record { width = 3; least = 0; limit = disks; refusal = TicketBlockDisk }
 
 abbrev pub refs_row : Row
-refs_row = record { width = 12; least = 0; limit = 2049; number = 6 }
+refs_row = record { width = 12; least = 0; limit = 2049; refusal = TicketReferences }
 
 abbrev pub ref_row : ℕ → Row
-ref_row blocks = record { width = 9; least = 0; limit = blocks; number = 7 }
+ref_row blocks = record { width = 9; least = 0; limit = blocks; refusal = TicketReference }

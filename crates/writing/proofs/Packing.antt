@@ -1,27 +1,28 @@
 -- An action's bits are one field, and actions put one after the other on a clear sheet are their round's bits. Assumes nothing.
 use mathlib.Core.Path.{◌≡◌, refl, sym, ap, ap₂, ◌∙◌}
-use mathlib.Core.List.{List, [], ◌∷◌, ◌++◌, append_assoc, append-nil}
+use mathlib.Core.List.{List, [], ◌∷◌, ◌++◌, map, append_assoc, append-nil}
 use Prim.Native.Nat.{ℕ, zero, suc, ◌+◌, ◌-◌, ◌*◌, ◌/◌, ◌%◌, ◌^◌, ◌≤◌, ◌<◌}
 use native.Mathlib.Nat.{zero-add, suc-add, zero-mul, add_comm}
 use native.Mathlib.Numerals.{add-one}
 use native.Mathlib.Omega.{arith}
 use lib.Dec.{lit<}
-use borrow.Author.Tests.{eq-eqb, ne_eqb}
 use lib.ListN.{length, take, get_or, set, length-append}
 use lib.Pow.{high, shr-shr}
-use lib.Seq.{set-get_or}
-use Rattle.bits.specs.Bits.{digits, bits, bytes, Below}
+use lib.Seq.{set-get_or, take-suc}
+use Rattle.std.specs.List.{All}
+use Rattle.std.proofs.lemmas.List.{length-map, length-take-le, map-append}
+use Rattle.bits.specs.Bits.{digits, bits, bytes}
 use Rattle.bits.specs.Fields.{put_bit, put_bits, ClearFrom}
 use Rattle.bits.proofs.Bits.{Bits, digits_low, length-bytes, bits_are, append_bits, take-bits, length-bits}
-use Rattle.bits.proofs.Fields.{put_packed, clear_packed, below_any}
-use Rattle.model.specs.Playing.{Action, idle, fetch, replace}
-use Rattle.model.specs.Plans.{each}
+use Rattle.bits.proofs.Fields.{put_packed, clear_packed}
+use Rattle.model.specs.Playing.{idle, fetch, replace}
+use Rattle.model.specs.Playing.{Action as JobAction}
+use Rattle.model.specs.Rules.{action}
 use Rattle.model.specs.Sheet.{action_bits, round_bits}
 use Rattle.model.proofs.Bytes.{action-bits, round-bits}
 use Rattle.model.proofs.Longest.{length-action, length-round}
-use Rattle.model.proofs.Plans.{length-each, each_more}
-use Rattle.lookup.specs.Desk.{row, cell}
-use Rattle.writing.specs.Writing.{action_of, action_in, actions_in}
+use Rattle.writing.specs.declared.Action.{Action}
+use Rattle.writing.specs.Writing.{Small, choice_of, actions_in}
 
 -- two fields side by side are one
 pub digits_join : (a b x y : ℕ) → y < 2 ^ b → digits (a + b) (x * 2 ^ b + y) ≡ digits a x ++ digits b y
@@ -112,105 +113,88 @@ module _ (s : List ℕ) (at : ℕ) (clear : ClearFrom at s) (room : at ≤ lengt
       ∙ ap (bytes (length s)) (append_assoc before m o)
       ∙ sym (put_adds (m ++ o) (append_bits m o h k) (let e = length-append m o in omega (arith, e)))
 
--- an action given by two numbers
-
-pub action-idle : (f d : ℕ) → f ≡ 512 → action_of f d ≡ idle
-unfolding action_of
-action-idle f d e = rw (eq-eqb f 512 e)
-
-pub action-fetch : (f d : ℕ) → (f ≡ 512 → ⊥) → d ≡ 512 → action_of f d ≡ fetch f
-unfolding action_of
-action-fetch f d n e = rw (ne_eqb f 512 n, eq-eqb d 512 e)
-
-pub action-replace : (f d : ℕ) → (f ≡ 512 → ⊥) → (d ≡ 512 → ⊥) → action_of f d ≡ replace f d
-unfolding action_of
-action-replace f d n m = rw (ne_eqb f 512 n, ne_eqb d 512 m)
-
 -- their bits are bits, and there are few of them
-pub round-bits_are : (actions : List Action) → Bits (round_bits actions)
+pub round-bits_are : (actions : List JobAction) → Bits (round_bits actions)
 round-bits_are actions = rw append-nil at (round-bits actions [] none-bits)
 
-pub action-bits_are : (a : Action) → Bits (action_bits a)
+pub action-bits_are : (a : JobAction) → Bits (action_bits a)
 action-bits_are a = rw append-nil at (action-bits a [] none-bits)
 
 -- one more disk's action
 
-pub round_append : (l m : List Action) → round_bits (l ++ m) ≡ round_bits l ++ round_bits m
+round_append : (l m : List JobAction) → round_bits (l ++ m) ≡ round_bits l ++ round_bits m
 unfolding round_bits
 round_append [] m = refl
 round_append (a ∷ l) m = ap (λ (x : List ℕ). action_bits a ++ x) (round_append l m) ∙ sym (append_assoc (action_bits a) (round_bits l) (round_bits m))
 
-round_one : (a : Action) → round_bits (a ∷ []) ≡ action_bits a
+round_one : (a : JobAction) → round_bits (a ∷ []) ≡ action_bits a
 unfolding round_bits
 round_one a = append-nil (action_bits a)
 
--- What a round is written with: rows of at most 512, of few disks, and a sheet that is clear from `start` on and has room there.
-pub record Ready (s : List ℕ) (start : ℕ) (acts : List (List ℕ)) (disks : ℕ) : Type 0 where
-  pub few : disks ≤ 8
-  pub fetched : Below 513 (row acts 0)
-  pub discarded : Below 513 (row acts 1)
+-- What a round is written with: actions of few disks with blocks of the 512, and a sheet that is clear from `start` on and has room there.
+pub record Ready (s : List ℕ) (start : ℕ) (acts : List Action) : Type 0 where
+  pub few : length acts ≤ 8
+  pub small : All Small acts
   pub room : start + 192 ≤ length s * 8
   pub near : start < 350000
   pub clear : ClearFrom start s
 
 -- The sheet and the bit after it, once the actions of the disks below d are written from `start` on.
-pub record Wrote (s : List ℕ) (start : ℕ) (acts : List (List ℕ)) (disks d : ℕ) (sheet : List ℕ) (at : ℕ) : Type 0 where
-  pub ready : Ready s start acts disks
-  pub below : d ≤ disks
-  pub bits : sheet ≡ put_bits s start (round_bits (actions_in acts d))
-  pub place : at ≡ start + length (round_bits (actions_in acts d))
+pub record Wrote (s : List ℕ) (start : ℕ) (acts : List Action) (d : ℕ) (sheet : List ℕ) (at : ℕ) : Type 0 where
+  pub ready : Ready s start acts
+  pub bits : sheet ≡ put_bits s start (round_bits (actions_in (take d acts)))
+  pub place : at ≡ start + length (round_bits (actions_in (take d acts)))
 
-module _ (acts : List (List ℕ)) (d : ℕ) where
+module _ (acts : List Action) (d : ℕ) (l : d < length acts) where
   -- the bits of d disks are few, and those of the next disk's action come after them
-  most : length (round_bits (actions_in acts d)) ≤ d * 20
-  unfolding actions_in
-  most = omega (arith, length-round (each (action_in acts) 0 d), length-each (action_in acts) 0 d)
+  most : length (round_bits (actions_in (take d acts))) ≤ d * 20
+  most =
+      let some = length-map (map choice_of (take d acts)) action in
+      let of = length-map (take d acts) choice_of in
+      let many = length-take-le d acts (omega arith) in
+      omega (arith, length-round (actions_in (take d acts)))
 
-  one_more : round_bits (actions_in acts d) ++ action_bits (action_in acts d) ≡ round_bits (actions_in acts (d + 1))
-  unfolding actions_in
-  one_more =
-      let f : ℕ → Action = action_in acts in
-      sym (ap (λ (n : ℕ). round_bits (each f 0 n)) (add-one d) ∙ ap round_bits (each_more f 0 d) ∙ round_append (each f 0 d) (f (0 + d) ∷ [])
-      ∙ ap (λ (x : List ℕ). round_bits (each f 0 d) ++ x) (round_one (f (0 + d)) ∙ ap (λ (n : ℕ). action_bits (f n)) (zero-add d)))
+  one_more : (x : Action) → round_bits (actions_in (take d acts)) ++ action_bits (action (choice_of (get_or acts d x)))
+      ≡ round_bits (actions_in (take (d + 1) acts))
+  one_more x = rw (add-one d, take-suc acts d x l, map-append, map-append, round_append, round_one) refl
 
-pub wrote_start : {s : List ℕ} {start : ℕ} {acts : List (List ℕ)} {disks : ℕ} → Ready s start acts disks → Wrote s start acts disks 0 s start
-unfolding actions_in round_bits put_bits
-wrote_start r = record { ready = r; below = omega arith; bits = refl; place = omega arith }
+pub wrote_start : {s : List ℕ} {start : ℕ} {acts : List Action} → Ready s start acts → Wrote s start acts 0 s start
+unfolding round_bits put_bits
+wrote_start r = record { ready = r; bits = refl; place = omega arith }
 
-module _ {s : List ℕ} {start : ℕ} {acts : List (List ℕ)} {disks d : ℕ} {sheet : List ℕ} {at : ℕ} (w : Wrote s start acts disks d sheet at) where
-  pub wrote_length : length sheet ≡ length s
-  wrote_length =
-      let before = round_bits (actions_in acts d) in
-      ap length w.bits ∙ put_length s start w.ready.clear (omega arith) before (round-bits_are _) (omega (arith, most acts d))
-
-  -- the numbers of the next disk's action, and the place for its bits
-  pub wrote_small : (cell acts 0 d < 513) × (cell acts 1 d < 513)
-  wrote_small = (below_any 513 (row acts 0) (lit< tt) w.ready.fetched d, below_any 513 (row acts 1) (lit< tt) w.ready.discarded d)
-
+module _ {s : List ℕ} {start : ℕ} {acts : List Action} {d : ℕ} {sheet : List ℕ} {at : ℕ} (w : Wrote s start acts d sheet at) (l : d < length acts) where
+  -- the place for the next disk's bits
   pub wrote_clear : ClearFrom at sheet
   wrote_clear =
-      let before = round_bits (actions_in acts d) in
-      rw (w.bits, w.place) (put_clear s start w.ready.clear (omega arith) before (round-bits_are _) (omega (arith, most acts d)))
+      let before = round_bits (actions_in (take d acts)) in
+      let few = w.ready.few in
+      let room = w.ready.room in
+      rw (w.bits, w.place) (put_clear s start w.ready.clear (omega arith) before (round-bits_are _) (omega (arith, most acts d l)))
 
-  pub wrote_room : d < disks → (at + 32 ≤ length sheet * 8) × (at < 400000)
-  wrote_room l = (omega (arith, most acts d, wrote_length), omega (arith, most acts d))
+  pub wrote_room : (at + 32 ≤ length sheet * 8) × (at < 400000)
+  wrote_room =
+      let before = round_bits (actions_in (take d acts)) in
+      let few = w.ready.few in
+      let room = w.ready.room in
+      let near = w.ready.near in
+      let place = w.place in
+      let long = ap length w.bits ∙ put_length s start w.ready.clear (omega arith) before (round-bits_are _) (omega (arith, most acts d l)) in
+      (omega (arith, most acts d l), omega (arith, most acts d l))
 
-  -- one more disk's action, and those of all disks
-  pub wrote_more : {after : List ℕ} {next : ℕ} → d < disks → next ≡ at + length (action_bits (action_in acts d))
-      → after ≡ put_bits sheet at (action_bits (action_in acts d)) → Wrote s start acts disks (d + 1) after next
-  wrote_more l p q =
-      let a = action_in acts d in
-      let before = round_bits (actions_in acts d) in
-      let joined : before ++ action_bits a ≡ round_bits (actions_in acts (d + 1)) = one_more acts d in
+  -- one more disk's action
+  pub wrote_more : (x : Action) {after : List ℕ} {next : ℕ} → let a = action (choice_of (get_or acts d x)) in
+      next ≡ at + length (action_bits a) → after ≡ put_bits sheet at (action_bits a) → Wrote s start acts (d + 1) after next
+  wrote_more x p q =
+      let a = action (choice_of (get_or acts d x)) in
+      let before = round_bits (actions_in (take d acts)) in
+      let joined : before ++ action_bits a ≡ round_bits (actions_in (take (d + 1) acts)) = one_more acts d l x in
+      let few = w.ready.few in
+      let room = w.ready.room in
+      let place = w.place in
       let twice = put_twice s start w.ready.clear (omega arith) before (action_bits a) (round-bits_are _) (action-bits_are a)
-      (omega (arith, most acts d, length-action a)) in
+      (omega (arith, most acts d l, length-action a)) in
       record {
         ready = w.ready;
-        below = omega arith;
         bits = q ∙ ap₂ (λ (x : List ℕ) (n : ℕ). put_bits x n (action_bits a)) w.bits w.place ∙ twice ∙ ap (put_bits s start) joined;
         place = omega (arith, ap length joined, length-append before (action_bits a));
       }
-
-  pub wrote_all : disks ≤ d
-      → (at ≡ start + length (round_bits (actions_in acts disks))) × (sheet ≡ put_bits s start (round_bits (actions_in acts disks)))
-  wrote_all l = let e : d ≡ disks = omega arith in (rw e at w.place, rw e at w.bits)

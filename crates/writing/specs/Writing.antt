@@ -1,33 +1,35 @@
--- A round's actions as rows with a column for each disk: the fetched and the discarded block, where 512 is no block, and the reason. Assumes nothing.
-use Rattle.std.specs.Prelude.{cond, List, ℕ, ◌%◌, eqb}
-use Rattle.model.specs.Playing.{Action, idle, fetch, replace}
-use Rattle.model.specs.Plans.{each}
-use Rattle.lookup.specs.Desk.{cell}
+-- A round's actions with their reasons, disk by disk, as the model has them. Assumes nothing.
+use Rattle.std.specs.Prelude.{List, map, ℕ, ◌<◌}
+use Rattle.model.specs.Playing.{Action as JobAction}
+use Rattle.model.specs.Rules.{Choice, into_empty, over_min_block, min_block_sooner, waits, none_missing, action}
+use Rattle.model.specs.Page.{reason}
+use Rattle.writing.specs.declared.Action.{Action}
+use Rattle.writing.specs.declared.Action.TheVariants.{IntoEmpty, OverMinBlock, MinBlockSooner, Waits, NoneMissing}
 
--- The rows, by number as in the code.
-abbrev pub FETCHED : ℕ
-FETCHED = 0
+-- Which of the model's choices it is, an action with the reason for it.
+abbrev pub choice_of : Action → Choice
+choice_of (IntoEmpty u) = into_empty u
+choice_of (OverMinBlock u v) = over_min_block u v
+choice_of MinBlockSooner = min_block_sooner
+choice_of Waits = waits
+choice_of NoneMissing = none_missing
 
-abbrev pub DISCARDED : ℕ
-DISCARDED = 1
+-- An action with blocks of the 512.
+abbrev pub Small : Action → Type 0
+Small (IntoEmpty u) = u < 512
+Small (OverMinBlock u v) = (u < 512) × (v < 512)
+Small MinBlockSooner = Unit {0}
+Small Waits = Unit {0}
+Small NoneMissing = Unit {0}
 
-abbrev pub REASON : ℕ
-REASON = 2
+-- The choices of a round,
+abbrev pub choices_in : List Action → List Choice
+choices_in acts = map choice_of acts
 
--- The action that a fetched and a discarded number are,
-unfoldable pub action_of : ℕ → ℕ → Action
-action_of fetched discarded = cond (eqb fetched 512) idle (cond (eqb discarded 512) (fetch fetched) (replace fetched discarded))
+-- its actions,
+abbrev pub actions_in : List Action → List JobAction
+actions_in acts = map action (choices_in acts)
 
--- that of a disk,
-abbrev pub action_in : List (List ℕ) → ℕ → Action
-action_in acts e = action_of (cell acts FETCHED e) (cell acts DISCARDED e)
-
--- and of all disks below d
-unfoldable pub actions_in : List (List ℕ) → ℕ → List Action
-unfolding each action_of
-actions_in acts d = each (action_in acts) 0 d
-
--- The reasons of all disks below d, each as a byte.
-unfoldable pub reasons_in : List (List ℕ) → ℕ → List ℕ
-unfolding each
-reasons_in acts d = each (λ e. cell acts REASON e % 256) 0 d
+-- and the reasons for them, each as a byte.
+abbrev pub reasons_in : List Action → List ℕ
+reasons_in acts = map reason (choices_in acts)

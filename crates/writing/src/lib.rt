@@ -2,91 +2,108 @@
 // sheet's round count.
 #![tactic(auto)]
 
-ghost use Rattle.std.specs.Prelude.{◌≡◌, ◌+◌, ◌*◌, ◌/◌, ◌≤◌, ◌<◌, length, get_or};
+ghost use Rattle.std.specs.Prelude.{◌≡◌, ◌+◌, ◌*◌, ◌≤◌, ◌<◌, length, get_or};
+ghost use Rattle.std.specs.List.{All};
 ghost use Rattle.bits.specs.Bits.{Below};
 ghost use Rattle.bits.specs.Fields.{put_bits, ClearFrom, laid_at};
-ghost use Rattle.lookup.specs.Desk.{row};
+ghost use Rattle.model.specs.Page.{reason};
+ghost use Rattle.model.specs.Playing.{fetched};
+ghost use Rattle.model.specs.Rules.{action};
 ghost use Rattle.model.specs.Sheet.{action_bits, round_bits};
 ghost use Rattle.writing.specs.Heading.{headed};
 ghost use Rattle.writing.specs.Tallying.{tallied};
-ghost use Rattle.writing.specs.Writing.{FETCHED, DISCARDED, action_of, actions_in, reasons_in};
+ghost use Rattle.writing.specs.Writing.{Small, choice_of, actions_in, reasons_in};
 
-// A round's actions, each disk's in its column: the fetched block and the discarded one, where 512 stands for no block, and the reason: 0 an empty
-// slot, 1 over the min-block, 2 the min-block is sooner, 3 waits, 4 none is missing. All are 512 before the first round.
-pub type Actions = [[u16; 8]; 3];
-
-pub const FETCHED: usize = 0;
-
-pub const DISCARDED: usize = 1;
-
-pub const REASON: usize = 2;
-
-// One action at the bit `at`; the bit after it. The number 512 stands for no block.
-fn put_action(sheet: &mut [u8], at: usize, fetched: usize, discarded: usize) -> usize
-    requires fetched_bound { (fetched ≤ 512) × (discarded ≤ 512) }
-    requires at_in_bounds { (at + 32 ≤ length sheet.old * 8) × (at < 400000) }
-    requires clear_from { ClearFrom at sheet.old }
-    ensures value { result ≡ at + length (action_bits (action_of fetched discarded)) }
-    ensures sheet_after { sheet.new ≡ put_bits sheet.old at (action_bits (action_of fetched discarded)) }
-{
-    if fetched == 512 {
-        return at + 1;
-    }
-    if discarded == 512 {
-        bits::put(sheet, at, 11, 1024 + fetched * 2);
-        return at + 11;
-    }
-    bits::put(sheet, at, 20, 524288 + fetched * 1024 + 512 + discarded);
-    at + 20
+// What a disk does in a round, and why: the fetched block U, and the discarded one.
+#[derive(Clone, Copy)]
+pub enum Action {
+    IntoEmpty(u16),
+    OverMinBlock(u16, u16),
+    MinBlockSooner,
+    Waits,
+    NoneMissing,
 }
 
-// The actions of all disks, in order; the bit after them.
-pub fn put_round(sheet: &mut [u8], start: usize, disks: usize, acts: &Actions) -> usize
-    requires disks_bound { (disks ≤ 8) × Below 513 (row acts.now FETCHED) × Below 513 (row acts.now DISCARDED) }
+impl Action {
+    // How many blocks are fetched, one or none.
+    fn fetched(self) -> u16
+        ensures { result ≡ fetched (action (choice_of self)) }
+    {
+        match self {
+            Self::IntoEmpty(_) | Self::OverMinBlock(..) => 1,
+            Self::MinBlockSooner | Self::Waits | Self::NoneMissing => 0,
+        }
+    }
+
+    // The reason, as the place of its line in the legend of a page.
+    fn reason(self) -> u8
+        ensures { result ≡ reason (choice_of self) }
+    {
+        match self {
+            Self::IntoEmpty(_) => 0,
+            Self::OverMinBlock(..) => 1,
+            Self::MinBlockSooner => 2,
+            Self::Waits => 3,
+            Self::NoneMissing => 4,
+        }
+    }
+}
+
+// One action at the bit `at`; the bit after it.
+fn put_action(sheet: &mut [u8], at: usize, a: Action) -> usize
+    requires small { Small a }
+    requires at_in_bounds { (at + 32 ≤ length sheet.old * 8) × (at < 400000) }
+    requires clear_from { ClearFrom at sheet.old }
+    ensures value { result ≡ at + length (action_bits (action (choice_of a))) }
+    ensures sheet_after { sheet.new ≡ put_bits sheet.old at (action_bits (action (choice_of a))) }
+{
+    match a {
+        Action::IntoEmpty(u) => {
+            bits::put(sheet, at, 11, 1024 + u as usize * 2);
+            at + 11
+        }
+        Action::OverMinBlock(u, v) => {
+            bits::put(sheet, at, 20, 524288 + u as usize * 1024 + 512 + v as usize);
+            at + 20
+        }
+        Action::MinBlockSooner | Action::Waits | Action::NoneMissing => at + 1,
+    }
+}
+
+// The actions of a round, disk by disk; the bit after them.
+pub fn put_round(sheet: &mut [u8], start: usize, acts: &[Action]) -> usize
+    requires acts_bound { (length acts.now ≤ 8) × All Small acts.now }
     requires start_in_bounds { (start + 192 ≤ length sheet.old * 8) × (start < 350000) }
     requires clear_from { ClearFrom start sheet.old }
-    ensures value { result ≡ start + length (round_bits (actions_in acts.now disks)) }
-    ensures sheet_after { sheet.new ≡ put_bits sheet.old start (round_bits (actions_in acts.now disks)) }
+    ensures value { result ≡ start + length (round_bits (actions_in acts.now)) }
+    ensures sheet_after { sheet.new ≡ put_bits sheet.old start (round_bits (actions_in acts.now)) }
 {
     let mut at = start;
-    let mut d = 0;
-    while d < disks {
-        at = put_action(
-            sheet,
-            at,
-            acts[FETCHED][d] as usize,
-            acts[DISCARDED][d] as usize,
-        );
-        d += 1;
+    for a in acts {
+        at = put_action(sheet, at, *a);
     }
     at
 }
 
-// The reasons of all disks, in order, a byte each, from the byte `start` on, as far as the slice reaches.
-pub fn lay_reasons(reasons: &mut [u8], start: usize, disks: usize, acts: &Actions)
-    requires { (disks ≤ 8) × (start < 65536) }
-    ensures { reasons.new ≡ laid_at start (reasons_in acts.now disks) reasons.old }
+// The reasons of a round, disk by disk, a byte each, from the byte `start` on, as far as the slice reaches.
+pub fn lay_reasons(reasons: &mut [u8], start: usize, acts: &[Action])
+    requires { (length acts.now ≤ 8) × (start < 65536) }
+    ensures { reasons.new ≡ laid_at start (reasons_in acts.now) reasons.old }
 {
-    let mut d = 0;
-    while d < disks {
+    for (d, a) in acts.iter().enumerate() {
         if start + d < reasons.len() {
-            reasons[start + d] = (acts[REASON][d] % 256) as u8;
+            reasons[start + d] = a.reason();
         }
-        d += 1;
     }
 }
 
 // One fetch more for each disk that fetched a block.
-pub fn tally(fetches: &mut [u16; 8], disks: usize, acts: &Actions)
-    requires { (disks ≤ 8) × Below 65535 fetches.old }
-    ensures { fetches.new ≡ tallied fetches.old acts.now disks }
+pub fn tally(fetches: &mut [u16; 8], acts: &[Action])
+    requires { (length acts.now ≤ 8) × Below 65535 fetches.old }
+    ensures { fetches.new ≡ tallied fetches.old acts.now }
 {
-    let mut d = 0;
-    while d < disks {
-        if acts[FETCHED][d] != 512 {
-            fetches[d] += 1;
-        }
-        d += 1;
+    for (d, a) in acts.iter().enumerate() {
+        fetches[d] += a.fetched();
     }
 }
 
@@ -95,7 +112,6 @@ pub fn put_header(sheet: &mut [u8], rounds: usize)
     requires { (rounds ≤ 2048) × (2 ≤ length sheet.old) × (get_or sheet.old 1 0 < 16) }
     ensures { sheet.new ≡ headed sheet.old rounds }
 {
-    let second = sheet[1] as usize;
     sheet[0] = (rounds / 16) as u8;
-    sheet[1] = (second + rounds % 16 * 16) as u8;
+    sheet[1] += (rounds % 16 * 16) as u8;
 }

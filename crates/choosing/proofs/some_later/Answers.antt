@@ -1,25 +1,23 @@
--- `some_later` meets its contract. Assumes nothing.
-use mathlib.Core.Path.{ap, ◌∙◌}
-use Rattle.std.proofs.Common.{ℕ, get_or, arith}
-use Rattle.lookup.specs.Desk.{laters, helds}
-use Rattle.choosing.proofs.Scanning.{beyond_start, beyond_here, beyond_kept}
+-- `some_later`: what `any` finds in the disk's part of the residents. Assumes nothing.
+use Rattle.std.proofs.Common.{rules, arith, tests, ◌≡◌, ◌∙◌, ap, ◌+◌, ◌-◌, ℕ, take, drop, get_or, ltb}
+use Rattle.std.specs.List.{list_any}
+use Rattle.std.proofs.lemmas.Iterator.{YieldsList-from_slice}
+use Rattle.std.proofs.lemmas.Iterator.Adapters.{serves_from_places}
+use Rattle.std.proofs.lemmas.Iterator.Search.{any_from_yields_List}
+use Rattle.choosing.proofs.Scanning.{beyond_list, part_below}
 use Rattle.choosing.proofs.some_later.Goals as goal
-use Rattle.choosing.proofs.some_later.Goals.{then-bound-at, else-bound-at}
 
-pub loop-i-init : goal.loop-i-init
-loop-i-init c = (omega arith, omega arith, beyond_start _ _ _ _)
+pub any-requires-clause-callable : goal.any-requires-clause-callable
+any-requires-clause-callable c =
+    let a = c.args in
+    let all = take (a.base + a.count - a.base) (drop a.base a.desk.now.held) in
+    serves_from_places (YieldsList-from_slice all cc) (λ x q k. search rules)
+    (λ x k l e. let small = part_below 512 a.desk.now.held a.base _ k x.now c.requires.1 (omega arith) l e in search rules)
 
-pub loop-i-preserved : goal.loop-i-preserved
-loop-i-preserved c =
-    let args = c.args in
-    let residents = helds args.desk.now in
-    let later = laters args.desk.now in
-    let inv = c.loop-i.invariant in
-    let here = c.at.ensures ∙ ap (λ (b : ℕ). get_or later b 0) c.at-b.ensures in (
-      omega arith,
-      omega arith,
-      elim c.if-bound-at.branch [
-        | then-bound-at w ↦ w.found-is ∙ beyond_here residents later args.bound args.base _ inv.0 (omega (arith, here))
-        | else-bound-at w ↦ w.found-is ∙ beyond_kept residents later args.bound args.base _ _ inv.0 inv.2 (omega (arith, here))
-      ],
-    )
+pub returns : goal.returns
+returns c =
+    let a = c.args in
+    let all = take (a.base + a.count - a.base) (drop a.base a.desk.now.held) in
+    any_from_yields_List (λ b. ltb a.bound (get_or a.desk.now.later b 0)) _ _ c.any.result c.any.ensures.ran (YieldsList-from_slice all cc) (λ x b q k. search (rules, tests))
+    ∙ ap (λ (n : ℕ). list_any (λ b. ltb a.bound (get_or a.desk.now.later b 0)) (take n (drop a.base a.desk.now.held))) (let e : a.base + a.count - a.base ≡ a.count = omega arith in e)
+    ∙ beyond_list a.desk.now.held a.desk.now.later a.bound a.base a.count (omega arith)

@@ -1,40 +1,35 @@
 -- `listing::passes` meets its contract, for a string and for a refusal. Assumes nothing.
 use Rattle.std.proofs.Common.{arith}
-use Rattle.listing.proofs.PassesPrinted.{NoteRead, note_read, number_small, refusal_printed, string_blocks, string_printed}
+use Rattle.std.proofs.Math.Seq.{length-take-le}
+use Rattle.listing.proofs.PassesPrinted.{refusal_printed, count-within, string_blocks, string_printed}
 use Rattle.listing.proofs.passes.Goals as goal
 
-pub put_refusal-requires : goal.put_refusal-requires
-put_refusal-requires c =
-    let read : NoteRead c.args.input.now c.read-read.result c.read-read.new.refs =
-    note_read _ _ _ _ c.note_length-end.ensures c.read-read.ensures.0 c.read-read.ensures.1 c.read-read.auto.refs (omega (arith, c.read-read.auto.refs)) in
-    number_small read
+pub slice_bounds-blocks-end : goal.slice_bounds-blocks-end
+slice_bounds-blocks-end c =
+    omega (arith, count-within c.args.input.now _ _ c.note_in.ensures (omega arith) _ _ _ c.in-Ok.ensures.0 c.in-Ok.ensures.1, c.read.auto.refs)
 
-pub returns-then-number-ne0-clause-bytes : goal.returns-then-number-ne0-clause-bytes
-returns-then-number-ne0-clause-bytes c =
-    let read : NoteRead c.args.input.now c.read-read.result c.read-read.new.refs =
-    note_read _ _ _ _ c.note_length-end.ensures c.read-read.ensures.0 c.read-read.ensures.1 c.read-read.auto.refs (omega (arith, c.read-read.auto.refs)) in
-    (refusal_printed read c.if-number-ne0.true c.put_refusal.ensures.text c.put_refusal.ensures.few).0
-
-pub returns-then-number-ne0-clause-count : goal.returns-then-number-ne0-clause-count
-returns-then-number-ne0-clause-count c =
-    let read : NoteRead c.args.input.now c.read-read.result c.read-read.new.refs =
-    note_read _ _ _ _ c.note_length-end.ensures c.read-read.ensures.0 c.read-read.ensures.1 c.read-read.auto.refs (omega (arith, c.read-read.auto.refs)) in
-    (refusal_printed read c.if-number-ne0.true c.put_refusal.ensures.text c.put_refusal.ensures.few).1.0
+pub slice_bounds-put_blocks-end : goal.slice_bounds-put_blocks-end
+slice_bounds-put_blocks-end c =
+    let few = count-within c.args.input.now _ _ c.note_in.ensures (omega arith) _ _ _ c.in-Ok.ensures.0 c.in-Ok.ensures.1 in
+    omega (arith, length-take-le c.in-Ok.count c.read.new.refs (omega (arith, few, c.read.auto.refs)))
 
 pub put_blocks-requires : goal.put_blocks-requires
-put_blocks-requires c =
-    let read : NoteRead c.args.input.now c.read-read.result c.read-read.new.refs =
-    note_read _ _ _ _ c.note_length-end.ensures c.read-read.ensures.0 c.read-read.ensures.1 c.read-read.auto.refs (omega (arith, c.read-read.auto.refs)) in
-    string_blocks read c.if-number-ne0.false
+put_blocks-requires c = string_blocks c.args.input.now _ _ c.note_in.ensures (omega arith) _ _ _ c.in-Ok.ensures.0 c.in-Ok.ensures.1
 
-pub returns-clause-bytes : goal.returns-clause-bytes
-returns-clause-bytes c =
-    let read : NoteRead c.args.input.now c.read-read.result c.read-read.new.refs =
-    note_read _ _ _ _ c.note_length-end.ensures c.read-read.ensures.0 c.read-read.ensures.1 c.read-read.auto.refs (omega (arith, c.read-read.auto.refs)) in
-    (string_printed read c.if-number-ne0.false c.put_blocks.ensures.text c.put_blocks.ensures.few).0
+pub returns-in-Ok-clause-bytes : goal.returns-in-Ok-clause-bytes
+returns-in-Ok-clause-bytes c =
+    (string_printed c.args.input.now _ _ c.note_in.ensures (omega arith) _ _ _ c.in-Ok.ensures.0 c.in-Ok.ensures.1
+    c.put_blocks.ensures.text c.put_blocks.ensures.few).0
 
-pub returns-clause-count : goal.returns-clause-count
-returns-clause-count c =
-    let read : NoteRead c.args.input.now c.read-read.result c.read-read.new.refs =
-    note_read _ _ _ _ c.note_length-end.ensures c.read-read.ensures.0 c.read-read.ensures.1 c.read-read.auto.refs (omega (arith, c.read-read.auto.refs)) in
-    (string_printed read c.if-number-ne0.false c.put_blocks.ensures.text c.put_blocks.ensures.few).1.0
+pub returns-in-Ok-clause-count : goal.returns-in-Ok-clause-count
+returns-in-Ok-clause-count c =
+    (string_printed c.args.input.now _ _ c.note_in.ensures (omega arith) _ _ _ c.in-Ok.ensures.0 c.in-Ok.ensures.1
+    c.put_blocks.ensures.text c.put_blocks.ensures.few).1.0
+
+pub returns-in-Err-clause-bytes : goal.returns-in-Err-clause-bytes
+returns-in-Err-clause-bytes c =
+    (refusal_printed c.args.input.now _ _ c.note_in.ensures (omega arith) _ c.in-Err.ensures.0 c.number.ensures c.put_refusal.ensures.text c.put_refusal.ensures.few).0
+
+pub returns-in-Err-clause-count : goal.returns-in-Err-clause-count
+returns-in-Err-clause-count c =
+    (refusal_printed c.args.input.now _ _ c.note_in.ensures (omega arith) _ c.in-Err.ensures.0 c.number.ensures c.put_refusal.ensures.text c.put_refusal.ensures.few).1.0

@@ -11,7 +11,7 @@ use Rattle.listing.proofs.put_blocks.Goals.{then-i-gt0, else-i-gt0}
 
 pub loop-i-init : goal.loop-i-init
 unfolding spaced
-loop-i-init c = (omega arith, c.requires, omega arith, put_start _ _)
+loop-i-init c = (omega arith, put_start _ _)
 
 pub loop-i-preserved : goal.loop-i-preserved
 loop-i-preserved c =
@@ -22,11 +22,11 @@ loop-i-preserved c =
     ] in
     let few = space-few c.loop-i.i in
     let next = space.next in
-    let three = block_three _ (c.loop-i.invariant.1.small c.loop-i.i c.loop-i-test.true) in
+    let three = block_three _ (c.requires.small c.loop-i.i c.loop-i-test.true) in
     let put = c.put_decimal-at.ensures in
     let last = put.next in
-    (omega arith, c.requires, omega (arith, few.0, few.1, next, three, last), put_block c.loop-i.i _ c.loop-i-test.true c.loop-i.invariant.3 space put)
+    (omega (arith, few.0, few.1, next, three, last), put_block c.loop-i.i _ c.loop-i-test.true c.loop-i.invariant.1 space put)
 
 pub returns-clause-text : goal.returns-clause-text
 unfolding passes_line
-returns-clause-text c = put_then (put_same (ap spaced (take_all c.loop-i.i _ c.loop-i-test.false)) c.loop-i.invariant.3) c.put.ensures
+returns-clause-text c = put_then (put_same (ap spaced (take_all c.loop-i.i _ c.loop-i-test.false)) c.loop-i.invariant.1) c.put.ensures

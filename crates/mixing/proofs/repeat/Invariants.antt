@@ -1,12 +1,9 @@
--- `repeat`. The invariant: the first i references are those of the whole, and the first time is among them. The measure is what is left of the part.
--- Assumes nothing.
-use Rattle.std.proofs.Common.{◌≤◌, ◌-◌, length, take}
+-- `repeat`. The invariant: the first i references are those of the whole, and the first time is among them. Assumes
+-- nothing.
+use Rattle.std.proofs.Common.{take}
 use Rattle.grammar.specs.Note.{repeated}
 use Rattle.mixing.proofs.Laws.{Begins}
 use Rattle.mixing.proofs.repeat.Given as goal
 
 abbrev pub invariant-loop-i : goal.invariant-loop-i
-invariant-loop-i l = (l.one ≤ l.i) × Begins (repeated l.times (take l.one l.fn.part)) l.i l.part
-
-abbrev pub decreases-loop-i : goal.decreases-loop-i
-decreases-loop-i l = length l.initial.part - l.i
+invariant-loop-i l = Begins (repeated l.times (take l.one l.fn.part)) l.i l.part

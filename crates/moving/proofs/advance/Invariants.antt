@@ -7,7 +7,7 @@ abbrev pub invariant-loop-p : goal.invariant-loop-p
 invariant-loop-p l =
     (n : ℕ)
     × (length l.refs ≤ l.p + n)
-    × (move_from l.refs l.resident l.steps n l.p l.desk ≡ move_from l.refs l.resident l.steps 2048 l.look l.initial.desk)
+    × (move_from l.refs l.resident l.steps n l.p l.later ≡ move_from l.refs l.resident l.steps 2048 l.look l.initial.later)
 
 abbrev pub decreases-loop-p : goal.decreases-loop-p
 decreases-loop-p l = length l.refs - l.p

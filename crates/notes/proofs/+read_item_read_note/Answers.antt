@@ -1,108 +1,149 @@
 -- The proof of the cycle of calls {read_item, read_note}: an item is a block or a note in parentheses, with a count; and what a turn of the loop over
 -- the items of a note does is in `proofs/Turn.antt`. Assumes nothing.
-use Rattle.std.proofs.Common.{arith, sym, ◌∙◌}
-use mathlib.Core.Logic.{inl}
+use Rattle.std.proofs.Common.{◌≡◌, Err, arith, rules, sym, subst, ◌∙◌}
 use Rattle.bits.proofs.Logic.{some_number}
+use Rattle.grammar.specs.Note.{Part}
 use Rattle.grammar.specs.Reading.{nothing}
 use Rattle.pieces.proofs.Laws.{begins_within}
-use Rattle.notes.specs.Readers.{ItemRead}
-use Rattle.notes.proofs.Parts.{PartRead, part-few, deep-refused, inside-read, block_read, counted-read}
+use Rattle.notes.specs.Readers.{ItemRead, NoteRead}
+use Rattle.notes.proofs.Parts.{PartGot, PartRead, part-few, deep-refused, inside-refused, inside-read, block_read, counted-read}
 use Rattle.notes.proofs.SoFar.{so_far_none}
-use Rattle.notes.proofs.Turn.{item-wrong, counts-few, joint-wrong, goes-on, goes-again, note-over}
+use Rattle.notes.proofs.Turn.{item-wrong, counts-few, joint-wrong, same-side, next-side, note-over}
 use Rattle.notes.proofs.+read_item_read_note.Goals as goal
+use Rattle.notes.proofs.+read_item_read_note.Goals.{read_item-then-is_at+else-from-eq0+in_ok-inner+in_ok-part, read_item-else-is_at+in_ok-part-2}
 
-pub read_item-returns-then-depth-eq0 : goal.read_item-returns-then-depth-eq0
+pub read_item-returns-then-from-eq0 : goal.read_item-returns-then-from-eq0
 unfolding ItemRead
-read_item-returns-then-depth-eq0 t c =
-    inl (rw c.refused_at.ensures (deep-refused c.args.text.now c.args.from (sym c.is_at.ensures ∙ c.if-is_at.true) c.if-depth-eq0.true))
+read_item-returns-then-from-eq0 t c = deep-refused c.args.text.now c.args.from (sym c.if-is_at.ensures) c.if-from-eq0.true
 
 -- a parenthesis that opens is within the text
 pub read_item-overflow_add-within : goal.read_item-overflow_add-within
 read_item-overflow_add-within t c = omega (arith, begins_within _ c.args.text.now c.args.from.at c.is_at.ensures c.if-is_at.true)
 
 -- a note in parentheses
-pub read_item-counted-requires : goal.read_item-counted-requires
-read_item-counted-requires t c =
-    let part : PartRead c.args.text.now c.args.from c.args.line.now c.args.left.now c.read_note-inner.new.line c.read_note-inner.new.left c.closed-part.result =
-    rw c.closed-part.ensures
-    (inside-read c.args.text.now c.args.from (sym c.is_at.ensures ∙ c.if-is_at.true) (some_number _ c.if-depth-eq0.false) c.args.line.now c.args.left.now _ _
-    c.read_note-inner.result c.read_note-inner.ensures) in
-    (c.requires.few, c.requires.fewer, c.read_note-inner.auto.line ∙ c.requires.line_long, part-few _ _ _ _ _ _ _ part)
+pub read_item-returns-in_err-inner : goal.read_item-returns-in_err-inner
+unfolding ItemRead NoteRead
+read_item-returns-in_err-inner t c =
+    let e : c.from_residual.result ≡ Err c.in_err-inner.field-0.0 = search rules in
+    rw e (inside-refused c.args.text.now c.args.from (sym c.if-is_at.ensures) (some_number _ c.if-from-eq0.false) c.args.line.now c.args.left.now
+    c.read_note.new.line c.read_note.new.left c.in_err-inner.ensures)
 
-pub read_item-returns-then-is_at : goal.read_item-returns-then-is_at
-read_item-returns-then-is_at t c =
-    let part : PartRead c.args.text.now c.args.from c.args.line.now c.args.left.now c.read_note-inner.new.line c.read_note-inner.new.left c.closed-part.result =
-    rw c.closed-part.ensures
-    (inside-read c.args.text.now c.args.from (sym c.is_at.ensures ∙ c.if-is_at.true) (some_number _ c.if-depth-eq0.false) c.args.line.now c.args.left.now _ _
-    c.read_note-inner.result c.read_note-inner.ensures) in
-    rw (c.counted.ensures.piece, c.counted.ensures.repeats) (counted-read _ _ _ _ _ _ _ (c.read_note-inner.auto.line ∙ c.requires.line_long) part)
+pub read_item-returns-in_err-part : goal.read_item-returns-in_err-part
+unfolding ItemRead
+read_item-returns-in_err-part t c =
+    let e : c.from_residual-in_err-part.result ≡ Err c.in_err-part.field-0.0 = search rules in
+    rw e (subst (PartRead c.args.text.now c.args.from c.args.line.now c.args.left.now c.read_note.new.line c.read_note.new.left) (sym c.in_err-part.ensures)
+    (inside-read c.args.text.now c.args.from (sym c.if-is_at.ensures) (some_number _ c.if-from-eq0.false) c.args.line.now c.args.left.now _ _
+    c.in_ok-inner.inner c.in_ok-inner.ensures))
 
 -- a block
-pub read_item-counted-requires-2 : goal.read_item-counted-requires-2
-read_item-counted-requires-2 t c =
-    let part : PartRead c.args.text.now c.args.from c.args.line.now c.args.left.now c.read_block-part.new.line c.args.left.now c.read_block-part.result =
-    rw (c.read_block-part.ensures.piece, c.read_block-part.ensures.laid)
-    (block_read c.args.text.now c.args.from c.args.line.now c.args.left.now c.requires.line_long (sym c.is_at.ensures ∙ c.if-is_at.false)) in
-    (c.requires.few, c.requires.fewer, c.read_block-part.auto.line ∙ c.requires.line_long, part-few _ _ _ _ _ _ _ part)
+pub read_item-returns-in_err-part-2 : goal.read_item-returns-in_err-part-2
+unfolding ItemRead
+read_item-returns-in_err-part-2 t c =
+    let e : c.from_residual-in_err-part-2.result ≡ Err c.in_err-part-2.field-0.0 = search rules in
+    rw e (subst (PartRead c.args.text.now c.args.from c.args.line.now c.args.left.now _ c.args.left.now) (sym c.in_err-part-2.ensures.piece)
+    (block_read c.args.text.now c.args.from c.args.line.now c.args.left.now c.requires.line_long (sym c.if-is_at.ensures)))
+
+pub read_item-counted-requires : goal.read_item-counted-requires
+read_item-counted-requires t c =
+    let part : (p : Part) × PartGot c.args.text.now c.args.from c.args.line.now c.args.left.now c.if-is_at.line c.if-is_at.left c.if-is_at.part p =
+    elim c.if-is_at.branch [
+      | read_item-then-is_at+else-from-eq0+in_ok-inner+in_ok-part w ↦ rw (w.line-is, w.left-is, w.part-is)
+          (subst (PartRead c.args.text.now c.args.from c.args.line.now c.args.left.now w.read_note.new.line w.read_note.new.left) (sym w.in_ok-part.ensures)
+          (inside-read c.args.text.now c.args.from (sym w.if-is_at.ensures) (some_number _ w.if-from-eq0.false) c.args.line.now c.args.left.now _ _
+          w.in_ok-inner.inner w.in_ok-inner.ensures))
+      | read_item-else-is_at+in_ok-part-2 w ↦ rw (w.line-is, w.left-is, w.part-is, w.in_ok-part-2.ensures.laid)
+          (subst (PartRead c.args.text.now c.args.from c.args.line.now c.args.left.now _ c.args.left.now) (sym w.in_ok-part-2.ensures.piece)
+          (block_read c.args.text.now c.args.from c.args.line.now c.args.left.now c.requires.line_long (sym w.if-is_at.ensures)))
+    ] in
+    (c.requires.few, c.requires.fewer, c.if-is_at.auto.line ∙ c.requires.line_long, part-few _ _ _ _ _ _ _ part.0 part.1)
 
 pub read_item-returns : goal.read_item-returns
 read_item-returns t c =
-    let part : PartRead c.args.text.now c.args.from c.args.line.now c.args.left.now c.read_block-part.new.line c.args.left.now c.read_block-part.result =
-    rw (c.read_block-part.ensures.piece, c.read_block-part.ensures.laid)
-    (block_read c.args.text.now c.args.from c.args.line.now c.args.left.now c.requires.line_long (sym c.is_at.ensures ∙ c.if-is_at.false)) in
-    rw (c.counted-2.ensures.piece, c.counted-2.ensures.repeats) (counted-read _ _ _ _ _ _ _ (c.read_block-part.auto.line ∙ c.requires.line_long) part)
+    let part : (p : Part) × PartGot c.args.text.now c.args.from c.args.line.now c.args.left.now c.if-is_at.line c.if-is_at.left c.if-is_at.part p =
+    elim c.if-is_at.branch [
+      | read_item-then-is_at+else-from-eq0+in_ok-inner+in_ok-part w ↦ rw (w.line-is, w.left-is, w.part-is)
+          (subst (PartRead c.args.text.now c.args.from c.args.line.now c.args.left.now w.read_note.new.line w.read_note.new.left) (sym w.in_ok-part.ensures)
+          (inside-read c.args.text.now c.args.from (sym w.if-is_at.ensures) (some_number _ w.if-from-eq0.false) c.args.line.now c.args.left.now _ _
+          w.in_ok-inner.inner w.in_ok-inner.ensures))
+      | read_item-else-is_at+in_ok-part-2 w ↦ rw (w.line-is, w.left-is, w.part-is, w.in_ok-part-2.ensures.laid)
+          (subst (PartRead c.args.text.now c.args.from c.args.line.now c.args.left.now _ c.args.left.now) (sym w.in_ok-part-2.ensures.piece)
+          (block_read c.args.text.now c.args.from c.args.line.now c.args.left.now c.requires.line_long (sym w.if-is_at.ensures)))
+    ] in
+    rw (c.counted.ensures.piece, c.counted.ensures.repeats)
+    (counted-read _ _ _ _ _ _ _ (c.if-is_at.auto.line ∙ c.requires.line_long) part.0 part.1)
 
-pub read_note-loop-from-init : goal.read_note-loop-from-init
-read_note-loop-from-init t c = (nothing, so_far_none c.args.text.now c.args.from c.args.line.now c.args.left.now, c.requires)
+pub read_note-loop-item-init : goal.read_note-loop-item-init
+read_note-loop-item-init t c = (nothing, so_far_none c.args.text.now c.args.from c.args.line.now c.args.left.now, c.requires)
 
-pub read_note-returns-then-item-ne0 : goal.read_note-returns-then-item-ne0
-read_note-returns-then-item-ne0 t c =
-    item-wrong _ _ _ _ _ _ _ _ _ _ c.loop-from.invariant.1 _ _ c.cap.ensures c.cap-in-loop-from.ensures c.read_item-item.new.line c.read_item-item.new.left
-    c.read_item-item.result c.read_item-item.ensures c.if-item-ne0.true
+pub read_note-returns-in_err-item : goal.read_note-returns-in_err-item
+read_note-returns-in_err-item t c =
+    let e : c.from_residual.result ≡ Err c.in_err-item.field-0.0 = search rules in
+    rw e (item-wrong _ _ _ _ _ _ _ _ _ _ c.loop-item.invariant.1 _ _ c.cap.ensures c.cap-in-loop-item.ensures _ _ _ c.in_err-item.ensures)
 
-pub read_note-returns-then-joint-ne0 : goal.read_note-returns-then-joint-ne0
-read_note-returns-then-joint-ne0 t c =
-    joint-wrong _ _ _ _ _ _ _ _ _ _ c.loop-from.invariant.1 _ _ c.cap.ensures c.cap-in-loop-from.ensures c.read_item-item.new.line c.read_item-item.new.left
-    c.read_item-item.result c.read_item-item.ensures c.if-item-ne0.false (c.read_item-item.auto.line ∙ c.loop-from.invariant.2.line_long)
-    (c.read_item-item.auto.left ∙ c.loop-from.invariant.2.left_long) c.joint_after-joint.result c.joint_after-joint.ensures c.if-joint-ne0.true
-    c.refused_at.result c.refused_at.ensures
+pub read_note-returns-in_err-joint : goal.read_note-returns-in_err-joint
+read_note-returns-in_err-joint t c =
+    let e : c.from_residual-in_err-joint.result ≡ Err c.in_err-joint.field-0.0 = search rules in
+    rw e (joint-wrong _ _ _ _ _ _ _ _ _ _ c.loop-item.invariant.1 _ _ c.cap.ensures c.cap-in-loop-item.ensures _ _ c.in_ok-item.item c.in_ok-item.ensures
+    (c.read_item.auto.line ∙ c.loop-item.invariant.2.line_long) (c.read_item.auto.left ∙ c.loop-item.invariant.2.left_long) _ c.in_err-joint.ensures)
 
-pub read_note-overflow_add-side : goal.read_note-overflow_add-side
-read_note-overflow_add-side t c =
-    let few = counts-few _ _ _ _ _ _ _ _ _ _ c.loop-from.invariant.1 _ _ c.cap.ensures c.cap-in-loop-from.ensures c.read_item-item.new.line
-    c.read_item-item.new.left c.read_item-item.result c.read_item-item.ensures c.if-item-ne0.false in
+pub read_note-overflow_add-sides : goal.read_note-overflow_add-sides
+read_note-overflow_add-sides t c =
+    let few = counts-few _ _ _ _ _ _ _ _ _ _ c.loop-item.invariant.1 _ _ c.cap.ensures c.cap-in-loop-item.ensures _ _ c.in_ok-item.item c.in_ok-item.ensures in
     omega (arith, few)
 
-pub read_note-loop-from-smaller : goal.read_note-loop-from-smaller
-read_note-loop-from-smaller t c =
-    let on = goes-on _ _ _ _ _ _ _ _ _ _ c.loop-from.invariant.1 _ _ c.cap.ensures c.cap-in-loop-from.ensures c.read_item-item.new.line
-    c.read_item-item.new.left c.read_item-item.result c.read_item-item.ensures c.if-item-ne0.false
-    (c.read_item-item.auto.line ∙ c.loop-from.invariant.2.line_long) (c.read_item-item.auto.left ∙ c.loop-from.invariant.2.left_long)
-    c.joint_after-joint.result c.joint_after-joint.ensures c.if-joint.true in
+-- another item of the side
+pub read_note-loop-item-smaller-in-Item : goal.read_note-loop-item-smaller-in-Item
+read_note-loop-item-smaller-in-Item t c =
+    let on = same-side _ _ _ _ _ _ _ _ _ _ c.loop-item.invariant.1 _ _ c.cap.ensures c.cap-in-loop-item.ensures _ _ c.in_ok-item.item c.in_ok-item.ensures
+    (c.read_item.auto.line ∙ c.loop-item.invariant.2.line_long) (c.read_item.auto.left ∙ c.loop-item.invariant.2.left_long)
+    _ c.cap-in-loop-item-2.ensures _ (rw c.in-Item.is at c.in_ok-joint.ensures) in
     omega (arith, on.0, on.1)
 
-pub read_note-loop-from-preserved : goal.read_note-loop-from-preserved
-read_note-loop-from-preserved t c =
-    let long = c.read_item-item.auto.line ∙ c.loop-from.invariant.2.line_long in
-    let wide = c.read_item-item.auto.left ∙ c.loop-from.invariant.2.left_long in
-    let again = goes-again _ _ _ _ _ _ _ _ _ _ c.loop-from.invariant.1 _ _ c.cap.ensures c.cap-in-loop-from.ensures c.read_item-item.new.line
-    c.read_item-item.new.left c.read_item-item.result c.read_item-item.ensures c.if-item-ne0.false long wide c.joint_after-joint.result
-    c.joint_after-joint.ensures _ c.cap-in-loop-from-2.ensures c.mix_side-so_far.result c.mix_side-so_far.ensures.counts c.mix_side-so_far.new.left
-    c.mix_side-so_far.ensures.mixes c.if-joint.true in (
-      again.0,
-      again.1,
+pub read_note-loop-item-preserved-in-Item : goal.read_note-loop-item-preserved-in-Item
+read_note-loop-item-preserved-in-Item t c =
+    let long = c.read_item.auto.line ∙ c.loop-item.invariant.2.line_long in
+    let wide = c.read_item.auto.left ∙ c.loop-item.invariant.2.left_long in
+    let on = same-side _ _ _ _ _ _ _ _ _ _ c.loop-item.invariant.1 _ _ c.cap.ensures c.cap-in-loop-item.ensures _ _ c.in_ok-item.item c.in_ok-item.ensures
+    long wide _ c.cap-in-loop-item-2.ensures _ (rw c.in-Item.is at c.in_ok-joint.ensures) in (
+      on.2.0,
+      on.2.1,
       record {
-        few = c.loop-from.invariant.2.few;
-        fewer = c.loop-from.invariant.2.fewer;
+        few = c.loop-item.invariant.2.few;
+        fewer = c.loop-item.invariant.2.fewer;
         line_long = long;
-        left_long = c.mix_side-so_far.auto.left ∙ wide;
+        left_long = wide;
       },
     )
 
-pub read_note-returns-else-joint : goal.read_note-returns-else-joint
-read_note-returns-else-joint t c =
-    note-over _ _ _ _ _ _ _ _ _ _ c.loop-from.invariant.1 _ _ c.cap.ensures c.cap-in-loop-from.ensures c.read_item-item.new.line c.read_item-item.new.left
-    c.read_item-item.result c.read_item-item.ensures c.if-item-ne0.false (c.read_item-item.auto.line ∙ c.loop-from.invariant.2.line_long)
-    (c.read_item-item.auto.left ∙ c.loop-from.invariant.2.left_long) c.joint_after-joint.result c.joint_after-joint.ensures _ c.cap-in-loop-from-2.ensures
-    c.mix_side-so_far.result c.mix_side-so_far.ensures.counts c.mix_side-so_far.new.left c.mix_side-so_far.ensures.mixes c.if-joint-ne0.false
-    c.if-joint.false c.take_back.new.line c.take_back.ensures c.read_to.result c.read_to.ensures
+-- another side
+pub read_note-loop-item-smaller : goal.read_note-loop-item-smaller
+read_note-loop-item-smaller t c =
+    let on = next-side _ _ _ _ _ _ _ _ _ _ c.loop-item.invariant.1 _ _ c.cap.ensures c.cap-in-loop-item.ensures _ _ c.in_ok-item.item c.in_ok-item.ensures
+    (c.read_item.auto.line ∙ c.loop-item.invariant.2.line_long) (c.read_item.auto.left ∙ c.loop-item.invariant.2.left_long)
+    _ c.cap-in-loop-item-2.ensures _ c.mix_side-sides.ensures.counts _ c.mix_side-sides.ensures.mixes _ (rw c.in-Side.is at c.in_ok-joint.ensures) in
+    omega (arith, on.0, on.1)
+
+pub read_note-loop-item-preserved : goal.read_note-loop-item-preserved
+read_note-loop-item-preserved t c =
+    let long = c.read_item.auto.line ∙ c.loop-item.invariant.2.line_long in
+    let wide = c.read_item.auto.left ∙ c.loop-item.invariant.2.left_long in
+    let on = next-side _ _ _ _ _ _ _ _ _ _ c.loop-item.invariant.1 _ _ c.cap.ensures c.cap-in-loop-item.ensures _ _ c.in_ok-item.item c.in_ok-item.ensures
+    long wide _ c.cap-in-loop-item-2.ensures _ c.mix_side-sides.ensures.counts _ c.mix_side-sides.ensures.mixes _ (rw c.in-Side.is at c.in_ok-joint.ensures) in (
+      on.2.0,
+      on.2.1,
+      record {
+        few = c.loop-item.invariant.2.few;
+        fewer = c.loop-item.invariant.2.fewer;
+        line_long = long;
+        left_long = c.mix_side-sides.auto.left ∙ wide;
+      },
+    )
+
+-- the end of the note
+pub read_note-returns-in-End : goal.read_note-returns-in-End
+read_note-returns-in-End t c =
+    note-over _ _ _ _ _ _ _ _ _ _ c.loop-item.invariant.1 _ _ c.cap.ensures c.cap-in-loop-item.ensures _ _ c.in_ok-item.item c.in_ok-item.ensures
+    (c.read_item.auto.line ∙ c.loop-item.invariant.2.line_long) (c.read_item.auto.left ∙ c.loop-item.invariant.2.left_long)
+    _ c.cap-in-loop-item-2.ensures _ c.mix_side-whole.ensures.counts _ c.mix_side-whole.ensures.mixes (rw c.in-End.is at c.in_ok-joint.ensures)
+    _ c.take_back.ensures

@@ -12,9 +12,9 @@ decreases-read_item l = l.from.depth * 2
 abbrev pub decreases-read_note : goal.decreases-read_note
 decreases-read_note l = l.from.depth * 2 + 1
 
-abbrev pub invariant-read_note-loop-from : goal.invariant-read_note-loop-from
-invariant-read_note-loop-from l =
-    (b : Before) × SoFar l.text l.from l.initial.line l.initial.left l.line l.left l.at l.side l.mixed b × Ready l.from l.line l.left
+abbrev pub invariant-read_note-loop-item : goal.invariant-read_note-loop-item
+invariant-read_note-loop-item l =
+    (b : Before) × SoFar l.text l.from l.initial.line l.initial.left l.line l.left l.at l.sides.side l.sides.mixed b × Ready l.from l.line l.left
 
-abbrev pub decreases-read_note-loop-from : goal.decreases-read_note-loop-from
-decreases-read_note-loop-from l = length l.text - l.at
+abbrev pub decreases-read_note-loop-item : goal.decreases-read_note-loop-item
+decreases-read_note-loop-item l = length l.text - l.at

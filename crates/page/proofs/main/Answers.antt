@@ -8,8 +8,8 @@ fits : (t out : List ℕ) {after : List ℕ} {n : ℕ} → 278613 ≡ length out
 fits t out e = printed-within t out (omega (arith, e))
 
 pub slice_bounds-text-end : goal.slice_bounds-text-end
-slice_bounds-text-end c = fits _ c.buffer-text.result c.buffer-text.ensures (c.page-m.ensures.bytes, c.page-m.ensures.count)
+slice_bounds-text-end c = fits _ c.zeros-text.result c.zeros-text.ensures (c.page-m.ensures.bytes, c.page-m.ensures.count)
 
 pub slice_bounds-write_all-end : goal.slice_bounds-write_all-end
 slice_bounds-write_all-end c =
-    sym (length-take-le c.page-m.result c.page-m.new.out (fits _ c.buffer-text.result c.buffer-text.ensures (c.page-m.ensures.bytes, c.page-m.ensures.count)))
+    sym (length-take-le c.page-m.result c.page-m.new.out (fits _ c.zeros-text.result c.zeros-text.ensures (c.page-m.ensures.bytes, c.page-m.ensures.count)))

@@ -1,24 +1,20 @@
 -- `page_text::page` meets its contract, for a page and for a refusal. Assumes nothing.
-use Rattle.ticket.proofs.Laws.{references_are}
-use Rattle.page_text.proofs.PagePrinted.{page-number-small, refusal_printed, page-printed}
+use Rattle.std.proofs.Common.{ap}
+use Rattle.texts.specs.Texts.{refusal_line}
+use Rattle.texts.proofs.Laws.{put_same}
+use Rattle.page_text.proofs.PagePrinted.{page-printed, refusal_printed}
 use Rattle.page_text.proofs.page.Goals as goal
 
-pub put_refusal-requires : goal.put_refusal-requires
-put_refusal-requires c =
-    let paged = c.plan_with_page-paged.ensures in
-    page-number-small c.args.ticket.now c.args.out.now _ _ paged.0 paged.1 paged.4 (references_are _ _ c.read-read.ensures)
+pub returns-in-Ok-clause-bytes : goal.returns-in-Ok-clause-bytes
+returns-in-Ok-clause-bytes c = (page-printed c.args.ticket.now c.args.out.now c.in-Ok.ensures.1 c.in-Ok.ensures.0).0
 
-pub returns-then-number-ne0 : goal.returns-then-number-ne0
-returns-then-number-ne0 c =
-    let paged = c.plan_with_page-paged.ensures in
-    let printed =
-    refusal_printed c.args.ticket.now c.args.out.now _ _ paged.0 paged.1 paged.4 (references_are _ _ c.read-read.ensures) c.if-number-ne0.true
-    c.put_refusal.ensures.text
-    in
-    record { bytes = printed.0; count = printed.1 }
+pub returns-in-Ok-clause-count : goal.returns-in-Ok-clause-count
+returns-in-Ok-clause-count c = (page-printed c.args.ticket.now c.args.out.now c.in-Ok.ensures.1 c.in-Ok.ensures.0).1
 
-pub returns : goal.returns
-returns c =
-    let paged = c.plan_with_page-paged.ensures in
-    let printed = page-printed c.args.ticket.now c.args.out.now _ _ paged.0 paged.1 paged.4 (references_are _ _ c.read-read.ensures) c.if-number-ne0.false in
-    record { bytes = printed.0; count = printed.1 }
+pub returns-in-Err-clause-bytes : goal.returns-in-Err-clause-bytes
+returns-in-Err-clause-bytes c =
+    (refusal_printed c.args.ticket.now c.args.out.now c.in-Err.ensures.1 c.in-Err.ensures.0 (put_same (ap refusal_line c.number.ensures) c.put_refusal.ensures.text)).0
+
+pub returns-in-Err-clause-count : goal.returns-in-Err-clause-count
+returns-in-Err-clause-count c =
+    (refusal_printed c.args.ticket.now c.args.out.now c.in-Err.ensures.1 c.in-Err.ensures.0 (put_same (ap refusal_line c.number.ensures) c.put_refusal.ensures.text)).1

@@ -1,18 +1,14 @@
 -- `planner::check` meets its contract, for a ticket or a stop that is refused and for others. Assumes nothing.
-use Rattle.job.specs.Meaning.{counting}
-use Rattle.planner.proofs.Laws.{ticket_fits, check_refused, check_given}
+use Rattle.std.proofs.Common.{sym, ◌∙◌, rules}
+use Rattle.ticket.proofs.Laws.{read_fits}
+use Rattle.planner.proofs.Laws.{check_refused, check_given}
 use Rattle.planner.proofs.check.Goals as goal
 
-pub returns-then-number-ne0 : goal.returns-then-number-ne0
-returns-then-number-ne0 c =
-    check_refused c.args.ticket.now c.args.stop _ c.read-read.ensures _ c.stop_number-number.ensures c.args.sheet.now c.if-number-ne0.true
+pub returns-in_err-job : goal.returns-in_err-job
+returns-in_err-job c = check_refused c.args.ticket.now c.args.stop c.args.sheet.now (sym c.read_up_to.ensures ∙ c.in_err-job.was) (search rules)
 
 pub check-requires : goal.check-requires
-unfolding counting
-check-requires c = ticket_fits _ _ _ c.read-read.ensures _ c.stop_number-number.ensures c.if-number-ne0.false
+check-requires c = read_fits _ _ (sym c.read_up_to.ensures ∙ c.in_ok-job.was)
 
 pub returns : goal.returns
-unfolding counting
-returns c =
-    check_given c.args.ticket.now c.args.stop _ c.read-read.ensures _ c.stop_number-number.ensures c.args.sheet.now _ c.if-number-ne0.false
-    c.check.ensures
+returns c = check_given c.args.ticket.now c.args.stop c.args.sheet.now (sym c.read_up_to.ensures ∙ c.in_ok-job.was) c.check.ensures

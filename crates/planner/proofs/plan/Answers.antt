@@ -1,25 +1,18 @@
 -- `planner::plan` meets its contract, for a ticket or a stop that is refused and for others. Assumes nothing.
-use Rattle.std.proofs.Common.{refl}
-use Rattle.job.specs.Meaning.{counting}
-use Rattle.model.specs.Calls.{planned_for}
-use Rattle.planner.proofs.Laws.{ticket_refused, ticket_given, ticket_fits}
-use Rattle.handing.proofs.Rooms.{gives_refused}
-use Rattle.planner.proofs.Promised.{gives_ticket}
+use Rattle.std.proofs.Common.{sym, ◌∙◌, rules}
+use Rattle.ticket.proofs.Laws.{read_fits}
+use Rattle.planner.proofs.Promised.{plan-refused, plan-given}
 use Rattle.planner.proofs.plan.Goals as goal
 
-pub returns-then-number-ne0 : goal.returns-then-number-ne0
-unfolding planned_for
-returns-then-number-ne0 c =
-    gives_ticket c.args.ticket.now c.args.stop c.args.short.now c.args.sparing.now _ _ _ _
-    (ticket_refused _ _ _ c.read-read.ensures _ c.stop_number-number.ensures c.if-number-ne0.true)
-    (gives_refused _ _ _ _ _ refl c.refusal.ensures)
+pub returns-in_err-job : goal.returns-in_err-job
+returns-in_err-job c =
+    let a = c.args in
+    plan-refused a.ticket.now a.stop a.short.now a.sparing.now (sym c.read_up_to.ensures ∙ c.in_err-job.was) (search rules)
 
 pub plan_job-requires : goal.plan_job-requires
-unfolding counting
-plan_job-requires c = ticket_fits _ _ _ c.read-read.ensures _ c.stop_number-number.ensures c.if-number-ne0.false
+plan_job-requires c = read_fits _ _ (sym c.read_up_to.ensures ∙ c.in_ok-job.was)
 
 pub returns : goal.returns
-unfolding counting
 returns c =
-    gives_ticket c.args.ticket.now c.args.stop c.args.short.now c.args.sparing.now _ _ _ _
-    (ticket_given _ _ _ c.read-read.ensures _ c.stop_number-number.ensures c.if-number-ne0.false) c.plan_job.ensures
+    let a = c.args in
+    plan-given a.ticket.now a.stop a.short.now a.sparing.now (sym c.read_up_to.ensures ∙ c.in_ok-job.was) c.plan_job.ensures

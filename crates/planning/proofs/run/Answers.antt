@@ -24,13 +24,13 @@ drive-sparing-requires c =
     let start = c.open-b.ensures in
     drive_asks c.args.job c.requires.0 Sparing start.0 start.1 start.2 _ c.requires.0.few_refs c.requires.2
 
-pub returns : goal.returns
-returns c =
+pub returns-clause-planned : goal.returns-clause-planned
+returns-clause-planned c =
     let job = c.args.job in
     let fits = c.requires.0 in
     let start = c.open-b.ensures in
-    let one = c.drive-short.ensures in
-    let two = c.drive-sparing.ensures in
+    let one = c.drive-short.ensures.driven in
+    let two = c.drive-sparing.ensures.driven in
     let gives = run_gives job fits
     (drive_gives job fits Short start.0 start.1 start.2)
     (drive_gives job fits Sparing start.0 start.1 start.2)
@@ -38,6 +38,6 @@ returns c =
       gives.0,
       gives.1,
       gives.2,
-      drive_reasons job fits Short start.0 start.1 start.2 c.args.short_reasons.now one.2,
-      drive_reasons job fits Sparing start.0 start.1 start.2 c.args.sparing_reasons.now two.2,
+      drive_reasons job fits Short start.0 start.1 start.2 c.args.short.now.reasons.now one.2,
+      drive_reasons job fits Sparing start.0 start.1 start.2 c.args.sparing.now.reasons.now two.2,
     )

@@ -5,7 +5,7 @@ use Rattle.sides.proofs.take_back.Goals as goal
 
 pub returns-then-begin-from-le2048 : goal.returns-then-begin-from-le2048
 returns-then-begin-from-le2048 c =
-    part_copied c.args.from.line c.args.mixed (2048 - c.args.from.left) c.args.line.now _ _ (omega arith) c.copy.ensures
+    part_copied c.args.from.line c.args.mixed (2048 - c.args.from.left) c.args.line.now _ _ (omega arith) c.copy_from_slice.ensures.after
     ∙ sym (back_fits _ _ _ _ c.if-begin-from-le2048.true)
 
 pub returns-else-begin-from-le2048 : goal.returns-else-begin-from-le2048

@@ -1,27 +1,26 @@
--- `slots_text::put_least` meets its contract, for each answer. Assumes nothing.
-use Rattle.std.proofs.Common.{subst, arith}
+-- `slots_text::put_least` meets its contract where there is an answer. Assumes nothing.
+use Rattle.std.proofs.Common.{◌≡◌, ◌<◌, Ok, Some, None, ap, ◌∙◌, subst, arith}
 use Rattle.model.specs.Text.{text}
 use Rattle.model.specs.Plans.{each}
 use Rattle.texts.proofs.Laws.{end_seven, put_then}
-use Rattle.slots_text.specs.Text.{least_text, CountBelow}
+use Rattle.slots_text.specs.Text.{least_text, Few}
 use Rattle.slots_text.proofs.put_least.Goals as goal
 
-pub returns-in-Unanswered-clause-text : goal.returns-in-Unanswered-clause-text
-unfolding least_text
-returns-in-Unanswered-clause-text c = rw c.in-Unanswered.is c.put_refusal.ensures.text
-
-pub returns-in-NoCount-clause-text : goal.returns-in-NoCount-clause-text
+pub returns-in-None-clause-text : goal.returns-in-None-clause-text
 unfolding least_text text each
-returns-in-NoCount-clause-text c = rw c.in-NoCount.is c.put_word.ensures
+returns-in-None-clause-text c = let e : c.args.least ≡ Ok None = c.in-Ok.is ∙ ap Ok c.in-None.is in rw e c.put_word.ensures
 
-pub returns-in-Slots-clause-text : goal.returns-in-Slots-clause-text
+pub returns-in-Some-clause-text : goal.returns-in-Some-clause-text
 unfolding least_text text each
-returns-in-Slots-clause-text c = rw c.in-Slots.is (put_then c.put_word-at.ensures c.put_end.ensures)
+returns-in-Some-clause-text c =
+    let e : c.args.least ≡ Ok (Some c.in-Some.found) = c.in-Ok.is ∙ ap Ok c.in-Some.is in
+    rw e (put_then c.put_word-at.ensures c.put_end.ensures)
 
-pub returns-in-Slots-clause-few : goal.returns-in-Slots-clause-few
-returns-in-Slots-clause-few c =
-    let few = subst (CountBelow 65) c.in-Slots.is c.requires.slots in
+pub returns-in-Some-clause-few : goal.returns-in-Some-clause-few
+returns-in-Some-clause-few c =
+    let e : c.args.least ≡ Ok (Some c.in-Some.found) = c.in-Ok.is ∙ ap Ok c.in-Some.is in
+    let few : c.in-Some.found.slots < 65 = subst Few e c.requires in
     let at = c.put_word-at.ensures.next in
     let length = c.put_end.ensures.next in
-    let most = end_seven c.in-Slots.s (omega (arith, few)) in
+    let most = end_seven c.in-Some.found.slots (omega (arith, few)) in
     omega (arith, at, length, most)

@@ -1,16 +1,9 @@
--- `texts::put_word` meets its contract. Assumes nothing.
-use Rattle.std.proofs.Common.{arith, take_all}
-use Rattle.texts.proofs.Laws.{put_none, put_byte_more, put_same}
+-- `texts::put_word` meets its contract: what is put is the front of the word, and one byte more. Assumes nothing.
+use Rattle.texts.proofs.Laws.{put_start, put_byte_more}
 use Rattle.texts.proofs.put_word.Goals as goal
 
-pub loop-i-init : goal.loop-i-init
-loop-i-init c = (omega arith, put_none _ _)
+pub loop-byte-init : goal.loop-byte-init
+loop-byte-init c = put_start _ _
 
-pub loop-i-preserved : goal.loop-i-preserved
-loop-i-preserved c = (omega arith, put_byte_more c.loop-i.i _ c.loop-i-test.true c.loop-i.invariant.1 c.put.ensures)
-
-pub overflow_add-result : goal.overflow_add-result
-overflow_add-result c = omega arith
-
-pub returns : goal.returns
-returns c = put_same (take_all c.loop-i.i _ c.loop-i-test.false) c.loop-i.invariant.1
+pub loop-byte-preserved : goal.loop-byte-preserved
+loop-byte-preserved c = put_byte_more c.loop-byte.byte-index _ c.loop-byte-test.true c.loop-byte.invariant c.put-next.ensures

@@ -1,19 +1,21 @@
--- `lay_reasons` meets its contract. Assumes nothing.
-use Rattle.std.proofs.Common.{◌∙◌, arith}
-use Rattle.writing.proofs.Reasons.{laid-start, laid-within, laid_past}
+-- `lay_reasons` meets its contract: a reason is laid within the slice, and past its end there is nothing to lay. Assumes nothing.
+use Rattle.std.proofs.Common.{◌+◌, set, sym, ap, ◌∙◌}
+use lib.Seq.{set_out}
+use Rattle.bits.proofs.Fields.{laid_at_nil}
+use Rattle.writing.specs.declared.Action.TheVariants.{IntoEmpty}
+use Rattle.writing.proofs.Reasons.{laid_disk}
 use Rattle.writing.proofs.lay_reasons.Goals as goal
 use Rattle.writing.proofs.lay_reasons.Goals.{then-start-d, else-start-d}
 
 pub loop-d-init : goal.loop-d-init
-loop-d-init c = (omega arith, laid-start _ _ _)
+loop-d-init c = sym (laid_at_nil c.args.start c.args.reasons.now)
 
 pub loop-d-preserved : goal.loop-d-preserved
 loop-d-preserved c =
+    let a = c.args in
     let l = c.loop-d in
-    let a = c.args in (
-      omega arith,
-      elim c.if-start-d.branch [
-        | then-start-d w ↦ laid-within a.reasons.now a.start a.acts.now l.d l.invariant.1 w.reasons-is
-        | else-start-d w ↦ w.reasons-is ∙ laid_past a.reasons.now a.start a.acts.now l.d l.invariant.1 w.if-start-d.false
-      ],
-    )
+    rw (laid_disk a.reasons.now a.start a.acts.now l.d (IntoEmpty 0) c.loop-d-test.true, ← l.invariant)
+    (elim c.if-start-d.branch [
+      | then-start-d w ↦ w.reasons-is ∙ ap (set l.reasons (a.start + l.d)) w.reason.ensures
+      | else-start-d w ↦ w.reasons-is ∙ sym (set_out l.reasons (a.start + l.d) _ w.if-start-d.false)
+    ])

@@ -1,7 +1,0 @@
--- `passes::buffer` meets its contract: so many zeros are so long. They are not counted one by one. Assumes nothing.
-use Rattle.std.proofs.Common.{ℕ, sym}
-use lib.ListN.{length-replicate}
-use Rattle.passes.proofs.buffer.Goals as goal
-
-pub returns : goal.returns
-returns c = sym (length-replicate {0} {A = ℕ} 1048576 0)
