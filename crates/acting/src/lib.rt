@@ -24,15 +24,17 @@ pub fn note(c: Choice, desk: &Desk) -> Action
     requires { Small c × Below 512 desk.now.held }
     ensures { result ≡ noted desk.now.held c }
 {
-    match c {
-        Choice::IntoEmpty(u, _) => Action::IntoEmpty(u as u16),
-        Choice::OverMinBlock(u, place) => {
-            let v = desk.held_at(place);
-            Action::OverMinBlock(u as u16, v as u16)
-        }
-        Choice::MinBlockSooner => Action::MinBlockSooner,
-        Choice::Waits => Action::Waits,
-        Choice::NoneMissing => Action::NoneMissing,
+    let (fetched, discarded, reason) = match c {
+        Choice::IntoEmpty(u, _) => (Some(u as u16), None, 0),
+        Choice::OverMinBlock(u, place) => (Some(u as u16), Some(desk.held[place]), 1),
+        Choice::MinBlockSooner => (None, None, 2),
+        Choice::Waits => (None, None, 3),
+        Choice::NoneMissing => (None, None, 4),
+    };
+    Action {
+        fetched,
+        discarded,
+        reason,
     }
 }
 

@@ -5,7 +5,7 @@ use mathlib.Core.List.{List, ◌∷◌, ◌++◌, map}
 use Prim.Native.Nat.{ℕ, zero, suc, ◌+◌, ◌≤◌, ◌<◌}
 use native.Mathlib.Omega.{arith}
 use lib.Dec.{ltb}
-use lib.ListN.{take, drop, get_or-map, drop_of_length-le}
+use lib.ListN.{get_or, take, drop, get_or-map, drop_of_length-le}
 use lib.Seq.{drop-cons, take_all, ext_get_or}
 use Rattle.std.proofs.lemmas.List.{length-map, length-take-le, get_or-take}
 use borrow.Author.Tests.{ltb-true, ltb-false}
@@ -14,7 +14,7 @@ use Rattle.model.specs.Job.{Job, Sound, disk_count, ref_count, ref_at}
 use Rattle.model.specs.Playing.{Action as JobAction}
 use Rattle.model.specs.Playing.{Schedule, State, is_resident, act_all, consumed, play_round}
 use Rattle.model.specs.Rules.{none_missing, action}
-use Rattle.model.specs.Rules.{Rule as JobRule}
+use Rattle.model.specs.Rules.{Choice as RuleChoice, Rule as JobRule}
 use Rattle.model.specs.Plans.{each, choices, plan_from}
 use Rattle.model.specs.Page.{reason, reasons_of}
 use Rattle.model.specs.Valid.{Ready}
@@ -28,7 +28,7 @@ use Rattle.choosing.specs.Choosing.{rule_of}
 use Rattle.choosing.specs.declared.Rule.{Rule}
 use Rattle.lookup.proofs.Right.{Forward}
 use Rattle.lookup.proofs.StaysRight.{reading, right_read}
-use Rattle.writing.specs.Writing.{choice_of, choices_in, actions_in, reasons_in}
+use Rattle.writing.specs.Writing.{action_in, actions_in, reasons_in, idle_action}
 use Rattle.writing.specs.declared.Action.{Action}
 use Rattle.driving.specs.Driving.{PlanInput, PlanState, read_next, can_read, read_from, all_acted, round_acts, round_from, driven_from, reasons_from}
 use Rattle.driving.proofs.Input.{input_of}
@@ -124,26 +124,31 @@ module _ (rule : Rule) (j : Job) (sound : Sound j) {steps : Steps} (forward : Fo
         let l = many r (lawful_of rule) j sound s ready in
         ap (act_all s.resident) (take_all (disk_count j) (actions_of r j s) (omega (arith, l)))
 
-    -- their actions with the reasons are the rule's choices,
-    choices_are : choices_in (round_acts k p) ≡ choices r j s
+    -- what is said of each action, and of the rule's choice for its disk, is said of all
+    each_is : {A : Type 0} (f : Action → A) (g : RuleChoice → A) → f idle_action ≡ g none_missing
+        → ((e : ℕ) → e < disk_count j → f (get_or (all_acted k p).acts e idle_action) ≡ g (r j s e)) → map f (round_acts k p) ≡ map g (choices r j s)
     unfolding choices
-    choices_are =
+    each_is f g none same =
         let n = disk_count j in
         let acts = (all_acted k p).acts in
         let few = sound.few_disks in
         let long = turn_all.stands.long_acts in
-        let many = length-map (take n acts) choice_of ∙ length-take-le n acts (omega (arith, long)) in
-        ext_get_or none_missing (choices_in (take n acts)) (each (r j s) 0 n) (many ∙ sym (length-each (r j s) 0 n)) (λ e l.
+        let many = length-map (take n acts) f ∙ length-take-le n acts (omega (arith, long)) in
+        ext_get_or (f idle_action) (map f (take n acts)) (map g (each (r j s) 0 n))
+        (many ∙ sym (length-map (each (r j s) 0 n) g ∙ length-each (r j s) 0 n)) (λ e l.
         let inside : e < n = omega (arith, l, many) in
-        get_or-map choice_of (take n acts) e Action.NoneMissing ∙ ap choice_of (get_or-take n acts e Action.NoneMissing inside) ∙ turn_all.chosen e inside
-        ∙ sym (get_d_each (r j s) 0 n e none_missing inside ∙ ap (r j s) (let z : 0 + e ≡ e = omega arith in z)))
+        get_or-map f (take n acts) e idle_action ∙ ap f (get_or-take n acts e idle_action inside) ∙ same e inside
+        ∙ sym (ap (get_or (map g (each (r j s) 0 n)) e) none ∙ get_or-map g (each (r j s) 0 n) e none_missing
+        ∙ ap g (get_d_each (r j s) 0 n e none_missing inside ∙ ap (r j s) (let z : 0 + e ≡ e = omega arith in z))))
 
+    -- their actions are the rule's,
     acts_are : actions_in (round_acts k p) ≡ actions_of r j s
     unfolding actions_of
-    acts_are = ap (map action) choices_are
+    acts_are = each_is action_in action refl (λ e l. (turn_all.chosen e l).0)
 
+    -- for the rule's reasons,
     reasons_are : reasons_in (round_acts k p) ≡ map reason (choices r j s)
-    reasons_are = ap (map reason) choices_are
+    reasons_are = each_is (λ (a : Action). a.reason) reason refl (λ e l. (turn_all.chosen e l).1)
 
     -- and what is there after the round stands for the state after it.
     stands_after : StandsFor j (play_round j s (actions_of r j s)) (round_from k p)

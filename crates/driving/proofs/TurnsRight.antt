@@ -13,7 +13,7 @@ use Rattle.bits.proofs.Logic.{by_test}
 use Rattle.model.specs.Job.{Job, Sound, disk_count, block_count, ref_count, slots_of, disk_of, ref_at}
 use Rattle.model.specs.Playing.{Action as JobAction}
 use Rattle.model.specs.Playing.{idle, fetch, replace, State, is_resident, load, act, act_all, fetched, discarded}
-use Rattle.model.specs.Rules.{into_empty, over_min_block, action, distance, distance_now}
+use Rattle.model.specs.Rules.{over_min_block, action, distance, distance_now}
 use Rattle.model.specs.Rules.{Choice as RuleChoice, Rule as JobRule}
 use Rattle.model.specs.Valid.{Block, Legal, LegalAll, Ready}
 use Rattle.model.proofs.Buffers.{legal-take, taken, SameOn, load_same, load-round}
@@ -36,8 +36,8 @@ use Rattle.choosing.proofs.DiskStaysRight.{pointer_over, listed_into, listed_ove
 use Rattle.moving.proofs.PointerRight.{Moved, forward_ahead}
 use Rattle.choosing.proofs.Chosen.{Chooses, choice_is, choice_placed, Placed}
 use Rattle.acting.specs.Acting.{noted, taken_in}
-use Rattle.acting.proofs.AfterChoice.{rows_after, noted_is}
-use Rattle.writing.specs.Writing.{choice_of}
+use Rattle.acting.proofs.AfterChoice.{rows_after, Says, noted_is}
+use Rattle.writing.specs.Writing.{idle_action}
 use Rattle.writing.specs.declared.Action.{Action}
 use Rattle.driving.specs.Driving.{PlanInput, PlanState, choice_at, after_turn, turns}
 use Rattle.driving.proofs.Input.{input_of}
@@ -111,7 +111,7 @@ pub record StandsFor (j : Job) (s : State) (p : PlanState) : Type 0 where
 -- What is known once the disks below d have acted, in a round from the state s.
 pub record AfterTurns (rule : JobRule) (j : Job) (s : State) (d : ℕ) (p : PlanState) : Type 0 where
   pub stands : StandsFor j (mid_state rule j s d) p
-  pub chosen : (e : ℕ) → e < d → choice_of (get_or p.acts e Action.NoneMissing) ≡ rule j s e
+  pub chosen : (e : ℕ) → e < d → Says (rule j s e) (get_or p.acts e idle_action)
 
 module _ (rule : JobRule) (lawful : Lawful rule) (j : Job) (sound : Sound j) (s : State) (ready : Ready j s) (d : ℕ) (l : d < disk_count j)
     {p : PlanState} (h : AfterTurns rule j s d p) where
@@ -128,7 +128,7 @@ module _ (rule : JobRule) (lawful : Lawful rule) (j : Job) (sound : Sound j) (s 
       → ((e i : ℕ) → e ≢ d → e < disk_count j → i < 64 → get_or desk.held (e * 64 + i) 0 ≡ get_or p.desk.held (e * 64 + i) 0)
       → ((c : ℕ) → disk_of j c ≢ d → get_or desk.later c 0 ≡ get_or p.desk.later c 0)
       → desk.next ≡ p.desk.next → length desk.held ≡ 512 → length desk.look ≡ 512 → length desk.later ≡ 512
-      → (x : Action) → choice_of x ≡ rule j s d
+      → (x : Action) → Says (rule j s d) x
       → AfterTurns rule j s (suc d) (record { buffers = b; desk = desk; acts = set p.acts d x })
   unfolding mid_state
   after-action {b} {desk} legal' holds own looks' places laters' nexts' long₁ long₂ long₃ x is =
@@ -156,13 +156,13 @@ module _ (rule : JobRule) (lawful : Lawful rule) (j : Job) (sound : Sound j) (s 
           long_acts = length-set p.acts d x ∙ la;
         };
         chosen = λ k kl. by_test (eqb k d)
-            (λ y. rw (eqb-true k d y, get_or-set_same p.acts d x Action.NoneMissing (omega (arith, la))) is)
+            (λ y. rw (eqb-true k d y, get_or-set_same p.acts d x idle_action (omega (arith, la))) is)
             (λ n. let other = eqb-false k d n in
-            rw (get_or-set_other p.acts d k x Action.NoneMissing other) (h.chosen k (lib.Arith.lt_of_le-ne (omega arith) other)));
+            rw (get_or-set_other p.acts d k x idle_action other) (h.chosen k (lib.Arith.lt_of_le-ne (omega arith) other)));
       }
 
   -- nothing is fetched
-  step_idle : a ≡ idle → (x : Action) → choice_of x ≡ rule j s d
+  step_idle : a ≡ idle → (x : Action) → Says (rule j s d) x
       → AfterTurns rule j s (suc d) (record { buffers = p.buffers; desk = p.desk; acts = set p.acts d x })
   unfolding mid_state act Legal
   step_idle e x is =
@@ -200,7 +200,7 @@ module _ (rule : JobRule) (lawful : Lawful rule) (j : Job) (sound : Sound j) (s 
     own_step : {b : Buffers} → Legal j marks d a → Holds j b (acted (mid_state rule j s d) a) → (place : ℕ) → d * 64 ≤ place → place < d * 64 + 64
         → Listed j (act marks a) d (set p.desk.held place u) (load j (act marks a) d)
         → Pointer j (act marks a) s.next d look p.desk.later
-        → (x : Action) → choice_of x ≡ rule j s d
+        → (x : Action) → Says (rule j s d) x
         → AfterTurns rule j s (suc d)
         (record { buffers = b; desk = taken_in j.refs b.resident steps d u place p.desk; acts = set p.acts d x })
     own_step {b} legal' holds place lo hi listed pointer x is =
@@ -227,7 +227,7 @@ module _ (rule : JobRule) (lawful : Lawful rule) (j : Job) (sound : Sound j) (s 
         x is
 
     -- U enters an empty slot
-    step_into : a ≡ fetch u → load j marks d < slots_of j d → (x : Action) → choice_of x ≡ rule j s d
+    step_into : a ≡ fetch u → load j marks d < slots_of j d → (x : Action) → Says (rule j s d) x
         → AfterTurns rule j s (suc d) (record {
           buffers = fetch_into p.buffers u d;
           desk = taken_in j.refs (fetch_into p.buffers u d).resident steps d u (d * 64 + load j marks d) p.desk;
@@ -248,7 +248,7 @@ module _ (rule : JobRule) (lawful : Lawful rule) (j : Job) (sound : Sound j) (s 
 
     -- U takes the place of the resident at `place`
     step_over : (place : ℕ) → d * 64 ≤ place → place < d * 64 + load j marks d → a ≡ replace u (get_or p.desk.held place 0)
-        → look ≤ distance j.refs s.next (get_or p.desk.held place 0) → (x : Action) → choice_of x ≡ rule j s d
+        → look ≤ distance j.refs s.next (get_or p.desk.held place 0) → (x : Action) → Says (rule j s d) x
         → AfterTurns rule j s (suc d) (record {
           buffers = replace_in p.buffers (get_or p.desk.held place 0) u d;
           desk = taken_in j.refs (replace_in p.buffers (get_or p.desk.held place 0) u d).resident steps d u place p.desk;
@@ -332,22 +332,22 @@ module _ (rule : Rule) (j : Job) (sound : Sound j) {steps : Steps} (forward : Fo
         let same = ap (distance_now j s) f.1 in
         omega (arith, v, q, same)
 
-    written : (c : Choice) → c ≡ choice_at k d p → choice_of (noted p.desk.held c) ≡ r j s d
-    written c e = noted_is p.desk.held c ∙ rule_is c e
+    written : (c : Choice) → c ≡ choice_at k d p → Says (r j s d) (noted p.desk.held c)
+    written c e = subst (λ (x : RuleChoice). Says x (noted p.desk.held c)) (rule_is c e) (noted_is p.desk.held c)
 
     turn_step : (c : Choice) → c ≡ choice_at k d p → AfterTurns r j s (suc d) (after_turn k d p c)
     turn_step (IntoEmpty u place) e =
         let f = placed (IntoEmpty u place) e in
         let same = f.1 in
         let at : place ≡ d * 64 + load j (mid_state r j s d).resident d = (let n = counted in let q = f.3 in omega (arith, n, q)) in
-        let is = ap into_empty (sym same) ∙ written (IntoEmpty u place) e in
+        let is = subst (λ (y : ℕ). Says (r j s d) (noted p.desk.held (IntoEmpty y place))) same (written (IntoEmpty u place) e) in
         rw (at, same) (step_into r lawful j sound s ready d l h forward f.0 (ap action (sym (rule_is (IntoEmpty u place) e)) ∙ ap fetch same)
         (let n = counted in let q = f.2 in omega (arith, n, q)) _ is)
     turn_step (OverMinBlock u place) e =
         let f = placed (OverMinBlock u place) e in
         let same = f.1 in
         let v = get_or p.desk.held place 0 in
-        let is = ap (λ (y : ℕ). over_min_block y v) (sym same) ∙ written (OverMinBlock u place) e in
+        let is = subst (λ (y : ℕ). Says (r j s d) (noted p.desk.held (OverMinBlock y place))) same (written (OverMinBlock u place) e) in
         rw same (step_over r lawful j sound s ready d l h forward f.0 place f.3 (let n = counted in let q = f.4 in omega (arith, n, q))
         (ap action (sym (rule_is (OverMinBlock u place) e)) ∙ ap (λ (y : ℕ). replace y v) same) (far_enough u place e) _ is)
     turn_step MinBlockSooner e = step_idle r lawful j sound s ready d l h (ap action (sym (rule_is MinBlockSooner e))) _ (written MinBlockSooner e)

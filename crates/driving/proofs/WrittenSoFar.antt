@@ -14,7 +14,6 @@ use Rattle.bits.proofs.Bits.{Bits, append_bits, length-bytes, length_digits}
 use Rattle.bits.proofs.Fields.{put_packed, clear_packed, bytes-none}
 use Rattle.model.specs.Playing.{Action as JobAction}
 use Rattle.model.specs.Playing.{Schedule, fetched, total, fetches}
-use Rattle.model.specs.Rules.{none_missing, action}
 use Rattle.model.specs.Plans.{each}
 use Rattle.model.specs.Sheet.{round_bits, rounds_bits, sheet_bits}
 use Rattle.model.proofs.Charged.{total-after, total_most}
@@ -23,9 +22,8 @@ use Rattle.model.proofs.Plans.{length-each, get_d_each}
 use Rattle.model.proofs.Bytes.{rounds-bits}
 use Rattle.writing.specs.Heading.{headed}
 use Rattle.writing.specs.Tallying.{tallied}
-use Rattle.writing.specs.Writing.{choice_of, choices_in, actions_in}
+use Rattle.writing.specs.Writing.{action_in, actions_in, idle_action}
 use Rattle.writing.specs.declared.Action.{Action}
-use Rattle.writing.specs.declared.Action.TheVariants.{NoneMissing}
 use Rattle.writing.proofs.Headed.{headed-bytes, header_room}
 use Rattle.writing.proofs.Packing.{round-bits_are}
 use Rattle.writing.proofs.Tallied.{tallied-length, tallied_at}
@@ -111,7 +109,7 @@ module _ {done : Schedule} {counts sheet : List ℕ} {played at : ℕ} (w : Writ
     actions = actions_in acts
 
     actions_many : length actions ≡ length acts
-    actions_many = length-map (choices_in acts) action ∙ length-map acts choice_of
+    actions_many = length-map acts action_in
 
     count_more : (d : ℕ) → d < 8 → get_or (tallied counts acts) d 0 ≡ total fetched d (done ++ (actions ∷ []))
     unfolding total
@@ -120,7 +118,7 @@ module _ {done : Schedule} {counts sheet : List ℕ} {played at : ℕ} (w : Writ
         let more = total-after fetched d done (actions ∷ []) in
         let long = long-counts in
         let t = tallied_at counts acts d (omega (arith, long)) in
-        let a = get_or-map action (choices_in acts) d none_missing ∙ ap action (get_or-map choice_of acts d NoneMissing) in
+        let a = get_or-map action_in acts d idle_action in
         omega (arith, was, more, t, ap fetched a)
 
     pub written_more : played < 2048 → {counts' sheet' : List ℕ} {at' : ℕ} → counts' ≡ tallied counts acts

@@ -15,7 +15,7 @@ use Rattle.choosing.specs.declared.Choice.{Choice}
 use Rattle.choosing.specs.declared.Choice.TheVariants.{IntoEmpty, OverMinBlock, MinBlockSooner, Waits, NoneMissing}
 use Rattle.acting.specs.Acting.{noted, taken_in}
 use Rattle.acting.specs.declared.Input.{Input}
-use Rattle.writing.specs.Writing.{actions_in, reasons_in}
+use Rattle.writing.specs.Writing.{actions_in, reasons_in, idle_action}
 use Rattle.writing.specs.declared.Action.{Action}
 use Rattle.driving.specs.declared.Totals.{Totals}
 
@@ -38,7 +38,7 @@ pub record PlanState : Type 0 where
 
 -- The actions before the first round: no disk acts.
 abbrev pub no_acts : List Action
-no_acts = replicate 8 Action.NoneMissing
+no_acts = replicate 8 idle_action
 
 -- What the rule chooses for disk d,
 abbrev pub choice_at : PlanInput → ℕ → PlanState → Choice

@@ -50,7 +50,7 @@ pub fn drive(
     let refs = input.refs;
     let disks = input.slots.len();
     let mut b = buffers;
-    let mut acts = [Action::NoneMissing; 8];
+    let mut acts = [Action::IDLE; 8];
     let mut fetches = [0u16; 8];
     let mut rounds = 0;
     let mut at = 12;

@@ -27,8 +27,7 @@ use Rattle.opening.specs.Opening.{start_steps, start_desk}
 use Rattle.opening.proofs.Started.{refs_lent, refs-few, refs-small, disks_lent, forward_start, desk_right, desk_within, desk-held}
 use Rattle.lookup.specs.declared.Desk.{Desk}
 use Rattle.lookup.specs.declared.Steps.{Steps}
-use Rattle.writing.specs.Writing.{Small}
-use Rattle.writing.specs.declared.Action.TheVariants.{NoneMissing}
+use Rattle.writing.specs.Writing.{Small, idle_action}
 use Rattle.driving.specs.Driving.{PlanState, no_acts, driven_from, reasons_from, totals_of}
 use Rattle.driving.specs.Sized.{Sized, Kept}
 use Rattle.driving.specs.declared.Totals.{Totals}
@@ -78,7 +77,7 @@ module _ (c : Stored) (fits : Fits c) where
       small_helds = subst (Below 512) (sym (desk-held c fits)) (λ i l. fits.small_carried i);
       small_looks = desk_within c fits;
       long_acts = refl;
-      small_acts = All-replicate Small 8 NoneMissing tt;
+      small_acts = All-replicate Small 8 idle_action (tt, tt);
     }
 
     -- The buffers, the desk and the steps as `open` gives them, and any number of rounds.

@@ -1,6 +1,6 @@
 -- An action's bits are one field, and actions put one after the other on a clear sheet are their round's bits. Assumes nothing.
 use mathlib.Core.Path.{◌≡◌, refl, sym, ap, ap₂, ◌∙◌}
-use mathlib.Core.List.{List, [], ◌∷◌, ◌++◌, map, append_assoc, append-nil}
+use mathlib.Core.List.{List, [], ◌∷◌, ◌++◌, append_assoc, append-nil}
 use Prim.Native.Nat.{ℕ, zero, suc, ◌+◌, ◌-◌, ◌*◌, ◌/◌, ◌%◌, ◌^◌, ◌≤◌, ◌<◌}
 use native.Mathlib.Nat.{zero-add, suc-add, zero-mul, add_comm}
 use native.Mathlib.Numerals.{add-one}
@@ -9,6 +9,7 @@ use lib.Dec.{lit<}
 use lib.ListN.{length, take, get_or, set, length-append}
 use lib.Pow.{high, shr-shr}
 use lib.Seq.{set-get_or, take-suc}
+use Rattle.std.specs.Prelude.{Option, Some, None}
 use Rattle.std.specs.List.{All}
 use Rattle.std.proofs.lemmas.List.{length-map, length-take-le, map-append}
 use Rattle.bits.specs.Bits.{digits, bits, bytes}
@@ -17,12 +18,11 @@ use Rattle.bits.proofs.Bits.{Bits, digits_low, length-bytes, bits_are, append_bi
 use Rattle.bits.proofs.Fields.{put_packed, clear_packed}
 use Rattle.model.specs.Playing.{idle, fetch, replace}
 use Rattle.model.specs.Playing.{Action as JobAction}
-use Rattle.model.specs.Rules.{action}
 use Rattle.model.specs.Sheet.{action_bits, round_bits}
 use Rattle.model.proofs.Bytes.{action-bits, round-bits}
 use Rattle.model.proofs.Longest.{length-action, length-round}
 use Rattle.writing.specs.declared.Action.{Action}
-use Rattle.writing.specs.Writing.{Small, choice_of, actions_in}
+use Rattle.writing.specs.Writing.{Small, action_of, action_in, actions_in}
 
 -- two fields side by side are one
 pub digits_join : (a b x y : ℕ) → y < 2 ^ b → digits (a + b) (x * 2 ^ b + y) ≡ digits a x ++ digits b y
@@ -78,6 +78,17 @@ unfolding put_bits put_bit action_bits
 idle_put s at =
     let e : get_or s (at / 8) 0 + 0 * 2 ^ (7 - at % 8) ≡ get_or s (at / 8) 0 = (let z = zero-mul (2 ^ (7 - at % 8)) in omega (arith, z)) in
     sym (ap (set s (at / 8)) e ∙ set-get_or s (at / 8) 0)
+
+-- What an action is, by its blocks: with none fetched it is idle, whatever the discarded one is.
+
+pub action-idle : (f d : Option ℕ) → f ≡ None → action_of f d ≡ idle
+action-idle f d e = rw e refl
+
+pub action-fetch : (f d : Option ℕ) {u : ℕ} → f ≡ Some u → d ≡ None → action_of f d ≡ fetch u
+action-fetch f d e n = rw (e, n) refl
+
+pub action-replace : (f d : Option ℕ) {u v : ℕ} → f ≡ Some u → d ≡ Some v → action_of f d ≡ replace u v
+action-replace f d e m = rw (e, m) refl
 
 -- A sheet that is clear from a bit on is the bytes of the bits before it, and stays so as bits are added.
 module _ (s : List ℕ) (at : ℕ) (clear : ClearFrom at s) (room : at ≤ length s * 8) where
@@ -149,14 +160,13 @@ module _ (acts : List Action) (d : ℕ) (l : d < length acts) where
   -- the bits of d disks are few, and those of the next disk's action come after them
   most : length (round_bits (actions_in (take d acts))) ≤ d * 20
   most =
-      let some = length-map (map choice_of (take d acts)) action in
-      let of = length-map (take d acts) choice_of in
+      let some = length-map (take d acts) action_in in
       let many = length-take-le d acts (omega arith) in
       omega (arith, length-round (actions_in (take d acts)))
 
-  one_more : (x : Action) → round_bits (actions_in (take d acts)) ++ action_bits (action (choice_of (get_or acts d x)))
+  one_more : (x : Action) → round_bits (actions_in (take d acts)) ++ action_bits (action_in (get_or acts d x))
       ≡ round_bits (actions_in (take (d + 1) acts))
-  one_more x = rw (add-one d, take-suc acts d x l, map-append, map-append, round_append, round_one) refl
+  one_more x = rw (add-one d, take-suc acts d x l, map-append, round_append, round_one) refl
 
 pub wrote_start : {s : List ℕ} {start : ℕ} {acts : List Action} → Ready s start acts → Wrote s start acts 0 s start
 unfolding round_bits put_bits
@@ -182,10 +192,10 @@ module _ {s : List ℕ} {start : ℕ} {acts : List Action} {d : ℕ} {sheet : Li
       (omega (arith, most acts d l), omega (arith, most acts d l))
 
   -- one more disk's action
-  pub wrote_more : (x : Action) {after : List ℕ} {next : ℕ} → let a = action (choice_of (get_or acts d x)) in
+  pub wrote_more : (x : Action) {after : List ℕ} {next : ℕ} → let a = action_in (get_or acts d x) in
       next ≡ at + length (action_bits a) → after ≡ put_bits sheet at (action_bits a) → Wrote s start acts (d + 1) after next
   wrote_more x p q =
-      let a = action (choice_of (get_or acts d x)) in
+      let a = action_in (get_or acts d x) in
       let before = round_bits (actions_in (take d acts)) in
       let joined : before ++ action_bits a ≡ round_bits (actions_in (take (d + 1) acts)) = one_more acts d l x in
       let few = w.ready.few in

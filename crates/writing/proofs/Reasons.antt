@@ -9,19 +9,18 @@ use lib.Seq.{take-suc}
 use Rattle.std.proofs.lemmas.List.{length-map, length-take-le, map-append}
 use Rattle.bits.specs.Fields.{laid_at}
 use Rattle.bits.proofs.Fields.{laid_then, laid_byte}
-use Rattle.model.specs.Page.{reason}
 use Rattle.writing.specs.declared.Action.{Action}
-use Rattle.writing.specs.Writing.{choice_of, choices_in, reasons_in}
+use Rattle.writing.specs.Writing.{reasons_in}
 
 pub reasons_length : (acts : List Action) → length (reasons_in acts) ≡ length acts
-reasons_length acts = length-map (choices_in acts) reason ∙ length-map acts choice_of
+reasons_length acts = length-map acts (λ (a : Action). a.reason)
 
 -- one disk more
 pub laid_disk : (lent : List ℕ) (start : ℕ) (acts : List Action) (d : ℕ) (x : Action) → d < length acts
     → laid_at start (reasons_in (take (d + 1) acts)) lent
-    ≡ set (laid_at start (reasons_in (take d acts)) lent) (start + d) (reason (choice_of (get_or acts d x)))
+    ≡ set (laid_at start (reasons_in (take d acts)) lent) (start + d) (get_or acts d x).reason
 laid_disk lent start acts d x l =
-    let r = reason (choice_of (get_or acts d x)) in
+    let r = (get_or acts d x).reason in
     let many = reasons_length (take d acts) ∙ length-take-le d acts (omega arith) in
-    rw (add-one d, take-suc acts d x l, map-append, map-append)
+    rw (add-one d, take-suc acts d x l, map-append)
     (sym (laid_then start (start + d) (reasons_in (take d acts)) (r ∷ []) lent (omega (arith, many))) ∙ laid_byte (start + d) r _)

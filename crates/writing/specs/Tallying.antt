@@ -2,12 +2,11 @@
 -- rounds, that fetch a block". Assumes nothing.
 use Rattle.std.specs.Prelude.{List, [], ◌∷◌, ℕ, ◌+◌}
 use Rattle.model.specs.Playing.{fetched}
-use Rattle.model.specs.Rules.{action}
 use Rattle.writing.specs.declared.Action.{Action}
-use Rattle.writing.specs.Writing.{choice_of}
+use Rattle.writing.specs.Writing.{action_in}
 
 -- One fetch more for each disk that fetched a block.
 unfoldable pub tallied : List ℕ → List Action → List ℕ
 tallied [] acts = []
 tallied (n ∷ more) [] = n ∷ more
-tallied (n ∷ more) (a ∷ rest) = (n + fetched (action (choice_of a))) ∷ tallied more rest
+tallied (n ∷ more) (a ∷ rest) = (n + fetched (action_in a)) ∷ tallied more rest

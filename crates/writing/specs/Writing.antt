@@ -1,35 +1,31 @@
--- A round's actions with their reasons, disk by disk, as the model has them. Assumes nothing.
-use Rattle.std.specs.Prelude.{List, map, ℕ, ◌<◌}
+-- A round's actions with the reasons for them, disk by disk: the fetched and the discarded block, if any, and the reason. Assumes nothing.
+use Rattle.std.specs.Prelude.{List, map, ℕ, ◌<◌, Option, Some, None, IfSome}
+use Rattle.model.specs.Playing.{idle, fetch, replace}
 use Rattle.model.specs.Playing.{Action as JobAction}
-use Rattle.model.specs.Rules.{Choice, into_empty, over_min_block, min_block_sooner, waits, none_missing, action}
-use Rattle.model.specs.Page.{reason}
 use Rattle.writing.specs.declared.Action.{Action}
-use Rattle.writing.specs.declared.Action.TheVariants.{IntoEmpty, OverMinBlock, MinBlockSooner, Waits, NoneMissing}
-
--- Which of the model's choices it is, an action with the reason for it.
-abbrev pub choice_of : Action → Choice
-choice_of (IntoEmpty u) = into_empty u
-choice_of (OverMinBlock u v) = over_min_block u v
-choice_of MinBlockSooner = min_block_sooner
-choice_of Waits = waits
-choice_of NoneMissing = none_missing
 
 -- An action with blocks of the 512.
 abbrev pub Small : Action → Type 0
-Small (IntoEmpty u) = u < 512
-Small (OverMinBlock u v) = (u < 512) × (v < 512)
-Small MinBlockSooner = Unit {0}
-Small Waits = Unit {0}
-Small NoneMissing = Unit {0}
+Small a = IfSome a.fetched (λ u. u < 512) × IfSome a.discarded (λ v. v < 512)
 
--- The choices of a round,
-abbrev pub choices_in : List Action → List Choice
-choices_in acts = map choice_of acts
+-- The action that a fetched and a discarded block are: where none is fetched it is idle, whatever the discarded one is,
+abbrev pub action_of : Option ℕ → Option ℕ → JobAction
+action_of None discarded = idle
+action_of (Some u) None = fetch u
+action_of (Some u) (Some v) = replace u v
 
--- its actions,
+-- that of a disk,
+abbrev pub action_in : Action → JobAction
+action_in a = action_of a.fetched a.discarded
+
+-- and of all disks of a round.
 abbrev pub actions_in : List Action → List JobAction
-actions_in acts = map action (choices_in acts)
+actions_in acts = map action_in acts
 
--- and the reasons for them, each as a byte.
+-- The reasons of all disks of a round, each as a byte.
 abbrev pub reasons_in : List Action → List ℕ
-reasons_in acts = map reason (choices_in acts)
+reasons_in acts = map (λ a. a.reason) acts
+
+-- The action of a disk of which no block is missing.
+abbrev pub idle_action : Action
+idle_action = record { fetched = None; discarded = None; reason = 4 }

@@ -6,68 +6,57 @@ ghost use Rattle.std.specs.Prelude.{◌≡◌, ◌+◌, ◌*◌, ◌≤◌, ◌<
 ghost use Rattle.std.specs.List.{All};
 ghost use Rattle.bits.specs.Bits.{Below};
 ghost use Rattle.bits.specs.Fields.{put_bits, ClearFrom, laid_at};
-ghost use Rattle.model.specs.Page.{reason};
 ghost use Rattle.model.specs.Playing.{fetched};
-ghost use Rattle.model.specs.Rules.{action};
 ghost use Rattle.model.specs.Sheet.{action_bits, round_bits};
 ghost use Rattle.writing.specs.Heading.{headed};
 ghost use Rattle.writing.specs.Tallying.{tallied};
-ghost use Rattle.writing.specs.Writing.{Small, choice_of, actions_in, reasons_in};
+ghost use Rattle.writing.specs.Writing.{Small, action_in, actions_in, reasons_in};
 
-// What a disk does in a round, and why: the fetched block U, and the discarded one.
+// What a disk does in a round: the fetched block and the discarded one, if any; and why, as the place of the reason's line in the legend of a page:
+// 0 an empty slot, 1 over the min-block, 2 the min-block is sooner, 3 waits, 4 none is missing.
 #[derive(Clone, Copy)]
-pub enum Action {
-    IntoEmpty(u16),
-    OverMinBlock(u16, u16),
-    MinBlockSooner,
-    Waits,
-    NoneMissing,
+pub struct Action {
+    pub fetched: Option<u16>,
+    pub discarded: Option<u16>,
+    pub reason: u8,
 }
 
 impl Action {
+    // That of a disk of which no block is missing.
+    pub const IDLE: Action = Action {
+        fetched: None,
+        discarded: None,
+        reason: 4,
+    };
+
     // How many blocks are fetched, one or none.
     fn fetched(self) -> u16
-        ensures { result ≡ fetched (action (choice_of self)) }
+        ensures { result ≡ fetched (action_in self) }
     {
-        match self {
-            Self::IntoEmpty(_) | Self::OverMinBlock(..) => 1,
-            Self::MinBlockSooner | Self::Waits | Self::NoneMissing => 0,
-        }
-    }
-
-    // The reason, as the place of its line in the legend of a page.
-    fn reason(self) -> u8
-        ensures { result ≡ reason (choice_of self) }
-    {
-        match self {
-            Self::IntoEmpty(_) => 0,
-            Self::OverMinBlock(..) => 1,
-            Self::MinBlockSooner => 2,
-            Self::Waits => 3,
-            Self::NoneMissing => 4,
+        match self.fetched {
+            Some(_) => 1,
+            None => 0,
         }
     }
 }
 
-// One action at the bit `at`; the bit after it.
+// One action at the bit `at`; the bit after it. An action that fetches no block is idle.
 fn put_action(sheet: &mut [u8], at: usize, a: Action) -> usize
     requires small { Small a }
     requires at_in_bounds { (at + 32 ≤ length sheet.old * 8) × (at < 400000) }
     requires clear_from { ClearFrom at sheet.old }
-    ensures value { result ≡ at + length (action_bits (action (choice_of a))) }
-    ensures sheet_after { sheet.new ≡ put_bits sheet.old at (action_bits (action (choice_of a))) }
+    ensures value { result ≡ at + length (action_bits (action_in a)) }
+    ensures sheet_after { sheet.new ≡ put_bits sheet.old at (action_bits (action_in a)) }
 {
-    match a {
-        Action::IntoEmpty(u) => {
-            bits::put(sheet, at, 11, 1024 + u as usize * 2);
-            at + 11
-        }
-        Action::OverMinBlock(u, v) => {
-            bits::put(sheet, at, 20, 524288 + u as usize * 1024 + 512 + v as usize);
-            at + 20
-        }
-        Action::MinBlockSooner | Action::Waits | Action::NoneMissing => at + 1,
-    }
+    let Some(u) = a.fetched else {
+        return at + 1;
+    };
+    let Some(v) = a.discarded else {
+        bits::put(sheet, at, 11, 1024 + u as usize * 2);
+        return at + 11;
+    };
+    bits::put(sheet, at, 20, 524288 + u as usize * 1024 + 512 + v as usize);
+    at + 20
 }
 
 // The actions of a round, disk by disk; the bit after them.
@@ -92,7 +81,7 @@ pub fn lay_reasons(reasons: &mut [u8], start: usize, acts: &[Action])
 {
     for (d, a) in acts.iter().enumerate() {
         if start + d < reasons.len() {
-            reasons[start + d] = a.reason();
+            reasons[start + d] = a.reason;
         }
     }
 }

@@ -1,8 +1,9 @@
 -- `lay_reasons` meets its contract: a reason is laid within the slice, and past its end there is nothing to lay. Assumes nothing.
-use Rattle.std.proofs.Common.{◌+◌, set, sym, ap, ◌∙◌}
+use Rattle.std.proofs.Common.{◌+◌, sym, ◌∙◌}
+use Rattle.std.specs.Prelude.{None}
 use lib.Seq.{set_out}
 use Rattle.bits.proofs.Fields.{laid_at_nil}
-use Rattle.writing.specs.declared.Action.TheVariants.{IntoEmpty}
+use Rattle.writing.specs.declared.Action.{Action}
 use Rattle.writing.proofs.Reasons.{laid_disk}
 use Rattle.writing.proofs.lay_reasons.Goals as goal
 use Rattle.writing.proofs.lay_reasons.Goals.{then-start-d, else-start-d}
@@ -14,8 +15,9 @@ pub loop-d-preserved : goal.loop-d-preserved
 loop-d-preserved c =
     let a = c.args in
     let l = c.loop-d in
-    rw (laid_disk a.reasons.now a.start a.acts.now l.d (IntoEmpty 0) c.loop-d-test.true, ← l.invariant)
+    let none : Action = record { fetched = None; discarded = None; reason = 0 } in
+    rw (laid_disk a.reasons.now a.start a.acts.now l.d none c.loop-d-test.true, ← l.invariant)
     (elim c.if-start-d.branch [
-      | then-start-d w ↦ w.reasons-is ∙ ap (set l.reasons (a.start + l.d)) w.reason.ensures
+      | then-start-d w ↦ w.reasons-is
       | else-start-d w ↦ w.reasons-is ∙ sym (set_out l.reasons (a.start + l.d) _ w.if-start-d.false)
     ])

@@ -1,43 +1,46 @@
 -- `put_action` meets its contract: the bits of an action are put as one field, and none are for an idle one. Assumes nothing.
-use mathlib.Core.Path.{◌≡◌, refl}
-use mathlib.Core.Logic.{◌⊎◌, ⊎_elim}
+use mathlib.Core.Path.{refl}
 use Rattle.bits.proofs.Bits.{length_digits}
-use Rattle.model.specs.Playing.{idle}
-use Rattle.model.specs.Rules.{action}
 use Rattle.model.specs.Sheet.{action_bits}
-use Rattle.writing.specs.declared.Action.{Action}
-use Rattle.writing.specs.declared.Action.TheVariants.{MinBlockSooner, Waits, NoneMissing}
-use Rattle.writing.specs.Writing.{choice_of}
-use Rattle.writing.proofs.Packing.{fetch-field, replace-field, idle_put}
+use Rattle.writing.proofs.Packing.{fetch-field, replace-field, idle_put, action-idle, action-fetch, action-replace}
 use Rattle.writing.proofs.put_action.Goals as goal
 
-pub returns-in-IntoEmpty-clause-value : goal.returns-in-IntoEmpty-clause-value
-returns-in-IntoEmpty-clause-value c =
-    let is = c.in-IntoEmpty.is in
-    let small = rw is at c.requires.small in
-    rw (is, ← fetch-field c.in-IntoEmpty.u small, length_digits) refl
-
-pub returns-in-IntoEmpty-clause-sheet_after : goal.returns-in-IntoEmpty-clause-sheet_after
-returns-in-IntoEmpty-clause-sheet_after c =
-    let is = c.in-IntoEmpty.is in
-    let small = rw is at c.requires.small in
-    rw (is, ← fetch-field c.in-IntoEmpty.u small) c.put.ensures
-
-pub returns-in-OverMinBlock-clause-value : goal.returns-in-OverMinBlock-clause-value
-returns-in-OverMinBlock-clause-value c =
-    let is = c.in-OverMinBlock.is in
-    let small = rw is at c.requires.small in
-    rw (is, ← replace-field c.in-OverMinBlock.u c.in-OverMinBlock.v small.0 small.1, length_digits) refl
-
-pub returns-in-OverMinBlock-clause-sheet_after : goal.returns-in-OverMinBlock-clause-sheet_after
-returns-in-OverMinBlock-clause-sheet_after c =
-    let is = c.in-OverMinBlock.is in
-    let small = rw is at c.requires.small in
-    rw (is, ← replace-field c.in-OverMinBlock.u c.in-OverMinBlock.v small.0 small.1) c.put-in-OverMinBlock.ensures
-
-is_idle : (a : Action) → (a ≡ MinBlockSooner) ⊎ ((a ≡ Waits) ⊎ (a ≡ NoneMissing)) → action (choice_of a) ≡ idle
-is_idle a = ⊎_elim (λ e. rw e refl) (⊎_elim (λ e. rw e refl) (λ e. rw e refl))
-
-pub returns-in-MinBlockSooner : goal.returns-in-MinBlockSooner
+pub returns-in_default-clause-value : goal.returns-in_default-clause-value
 unfolding action_bits
-returns-in-MinBlockSooner c = rw (is_idle c.args.a c.in-MinBlockSooner.is) (record { value = refl; sheet_after = idle_put c.args.sheet.now c.args.at })
+returns-in_default-clause-value c = rw (action-idle c.args.a.fetched c.args.a.discarded c.in_default.is) refl
+
+pub returns-in_default-clause-sheet_after : goal.returns-in_default-clause-sheet_after
+returns-in_default-clause-sheet_after c =
+    rw (action-idle c.args.a.fetched c.args.a.discarded c.in_default.is) (idle_put c.args.sheet.now c.args.at)
+
+pub returns-in_default-discarded-clause-value : goal.returns-in_default-discarded-clause-value
+returns-in_default-discarded-clause-value c =
+    let a = c.args.a in
+    let u = c.in-Some.u in
+    let small = rw c.in-Some.is at c.requires.small.0 in
+    rw (action-fetch a.fetched a.discarded c.in-Some.is c.in_default-discarded.is, ← fetch-field u small, length_digits) refl
+
+pub returns-in_default-discarded-clause-sheet_after : goal.returns-in_default-discarded-clause-sheet_after
+returns-in_default-discarded-clause-sheet_after c =
+    let a = c.args.a in
+    let u = c.in-Some.u in
+    let small = rw c.in-Some.is at c.requires.small.0 in
+    rw (action-fetch a.fetched a.discarded c.in-Some.is c.in_default-discarded.is, ← fetch-field u small) c.put.ensures
+
+pub returns-clause-value : goal.returns-clause-value
+returns-clause-value c =
+    let a = c.args.a in
+    let u = c.in-Some.u in
+    let v = c.in-Some-discarded.v in
+    let small = rw c.in-Some.is at c.requires.small.0 in
+    let small_v = rw c.in-Some-discarded.is at c.requires.small.1 in
+    rw (action-replace a.fetched a.discarded c.in-Some.is c.in-Some-discarded.is, ← replace-field u v small small_v, length_digits) refl
+
+pub returns-clause-sheet_after : goal.returns-clause-sheet_after
+returns-clause-sheet_after c =
+    let a = c.args.a in
+    let u = c.in-Some.u in
+    let v = c.in-Some-discarded.v in
+    let small = rw c.in-Some.is at c.requires.small.0 in
+    let small_v = rw c.in-Some-discarded.is at c.requires.small.1 in
+    rw (action-replace a.fetched a.discarded c.in-Some.is c.in-Some-discarded.is, ← replace-field u v small small_v) c.put-2.ensures

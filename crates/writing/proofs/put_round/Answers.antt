@@ -1,5 +1,4 @@
 -- `put_round` meets its contract. Assumes nothing.
-use Rattle.writing.specs.declared.Action.TheVariants.{IntoEmpty}
 use Rattle.writing.proofs.Packing.{wrote_start, wrote_clear, wrote_room, wrote_more}
 use Rattle.writing.proofs.put_round.Goals as goal
 
@@ -15,4 +14,4 @@ pub put_action-at-requires-clause-clear_from : goal.put_action-at-requires-claus
 put_action-at-requires-clause-clear_from c = wrote_clear c.loop-a.invariant c.loop-a-test.true
 
 pub loop-a-preserved : goal.loop-a-preserved
-loop-a-preserved c = wrote_more c.loop-a.invariant c.loop-a-test.true (IntoEmpty 0) c.put_action-at.ensures.value c.put_action-at.ensures.sheet_after
+loop-a-preserved c = wrote_more c.loop-a.invariant c.loop-a-test.true _ c.put_action-at.ensures.value c.put_action-at.ensures.sheet_after

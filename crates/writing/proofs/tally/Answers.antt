@@ -1,6 +1,5 @@
 -- `tally` meets its contract. Assumes nothing.
 use Rattle.std.proofs.Common.{◌<◌, ◌+◌, ℕ, length, get_or, set, sym, ap, ◌∙◌, arith}
-use Rattle.writing.specs.declared.Action.TheVariants.{IntoEmpty}
 use Rattle.writing.proofs.Tallied.{fetched_most, tallied_none, tallied_before, tallied_more}
 use Rattle.writing.proofs.tally.Goals as goal
 
@@ -17,4 +16,4 @@ pub loop-d-preserved : goal.loop-d-preserved
 loop-d-preserved c =
     let l = c.loop-d in
     ap (λ (n : ℕ). set l.fetches l.d (get_or l.fetches l.d 0 + n)) c.fetched.ensures
-    ∙ tallied_more c.args.fetches.now c.args.acts.now l.d l.invariant c.loop-d-test.true (IntoEmpty 0)
+    ∙ tallied_more c.args.fetches.now c.args.acts.now l.d l.invariant c.loop-d-test.true _
