@@ -17,10 +17,13 @@ use Rattle.bits.proofs.Logic.{by_test}
 use Rattle.entries.specs.Parts.{outside, entry_of, entry_at, entry_then}
 use Rattle.carried.specs.Carried.{block_row, on_disk, block_at}
 use Rattle.entries.specs.declared.Row.{Row}
+use Rattle.entries.specs.declared.Unread.{Unread}
+use Rattle.entries.specs.declared.Unread.TheVariants.{Outside}
 use Rattle.entries.proofs.Entries.{entry-within}
 
 -- what was read, of a row that is known
-pub row_entry : (t : List ℕ) (at : ℕ) {r row : Row} {x y : Result ℕ Refusal} → r ≡ row → x ≡ entry_at t at r → x ≡ y → entry_at t at row ≡ y
+pub row_entry : (t : List ℕ) (at : ℕ) {r row : Row Refusal} {x y : Result ℕ (Unread Refusal)}
+    → r ≡ row → x ≡ entry_at t at r → x ≡ y → entry_at t at row ≡ y
 row_entry t at e f g = ap (entry_at t at) (sym e) ∙ sym f ∙ g
 
 module _ (t disks : List ℕ) (d at least : ℕ) where
@@ -31,11 +34,11 @@ module _ (t disks : List ℕ) (d at least : ℕ) where
   block_own {b} e q = rw (e, eq-eqb (get_or disks b 0) d q) refl
 
   pub block_other : {b : ℕ} → entry_at t at (block_row least (length disks)) ≡ Ok b → (get_or disks b 0 ≡ d → ⊥)
-      → Err CarriedBlock ≡ block_at t disks d at least
+      → Err (Outside CarriedBlock) ≡ block_at t disks d at least
   unfolding block_at on_disk
   block_other {b} e q = rw (e, ne_eqb (get_or disks b 0) d q) refl
 
-  pub block_refused : {n : Refusal} → entry_at t at (block_row least (length disks)) ≡ Err n → Err n ≡ block_at t disks d at least
+  pub block_refused : {n : Unread Refusal} → entry_at t at (block_row least (length disks)) ≡ Err n → Err n ≡ block_at t disks d at least
   unfolding block_at on_disk
   block_refused e = rw e refl
 
@@ -44,11 +47,11 @@ module _ (t disks : List ℕ) (d at least : ℕ) where
   unfolding block_at on_disk
   block_within {v} e = go (entry_at t at (block_row least (length disks))) refl e
     where
-      tested : (b : ℕ) (own : Bool) → b < length disks → cond own (Ok b) (Err CarriedBlock) ≡ Ok v → v < length disks
+      tested : (b : ℕ) (own : Bool) → b < length disks → cond own (Ok b) (Err (Outside CarriedBlock)) ≡ Ok v → v < length disks
       tested b true l p = let same : b ≡ v = cc in omega (arith, same, l)
       tested b false l p = absurd (let z : ◌≡◌ {A = ℕ} 0 1 = cc in omega arith)
 
-      go : (x : Result ℕ Refusal) → entry_at t at (block_row least (length disks)) ≡ x → on_disk disks d x ≡ Ok v → v < length disks
+      go : (x : Result ℕ (Unread Refusal)) → entry_at t at (block_row least (length disks)) ≡ x → on_disk disks d x ≡ Ok v → v < length disks
       go (Ok b) q p = tested b (eqb (get_or disks b 0) d) (entry-within t at (block_row least (length disks)) q).1 p
       go (Err r) q p = absurd (let z : ◌≡◌ {A = ℕ} 0 1 = cc in omega arith)
 

@@ -15,9 +15,10 @@ use Rattle.bits.specs.Bits.{bits, Below}
 use Rattle.bits.specs.Reading.{Read, got, stop, ◌>>=◌, give}
 use Rattle.bits.proofs.Reading.{bind_ok, bind-give, bind-stop}
 use Rattle.model.specs.Ticket.{carried_blocks, carried_field, carried_fields}
-use Rattle.entries.specs.Parts.{outside, Filled}
+use Rattle.entries.specs.Parts.{outside, unread_refusal, Filled}
 use Rattle.carried.specs.Carried.{carried_row, blocks_on, disk_part, Carried, carried_by, carried_parts}
 use Rattle.entries.specs.declared.Part.{Part}
+use Rattle.entries.specs.declared.Unread.{Unread}
 use Rattle.entries.proofs.Entries.{any_test}
 use Rattle.carried.proofs.Blocks.{block_reads, block_within}
 use Rattle.entries.proofs.Parts.{Reads, PartRead, whole, broken, part_reads}
@@ -52,7 +53,8 @@ module _ (t disks : List ℕ) where
       → (p.count ≤ 64) × (p.next ≤ at + 583)
   disk_bounds at d slots table {p} few e = go (disk_read at d slots table) e
     where
-      go : {f : Filled} {l : Read (List ℕ)} → PartRead t at (carried_row slots) 9 (length disks) (d * 64) table (λ n vs. give vs) l f → f.part ≡ Ok p
+      go : {f : Filled (Unread Refusal)} {l : Read (List ℕ)}
+          → PartRead t at (carried_row slots) 9 (length disks) (d * 64) table (λ n vs. give vs) l f → f.part ≡ Ok p
           → (p.count ≤ 64) × (p.next ≤ at + 583)
       go (whole count next vs least below len small pos g) q =
           let c : count ≡ p.count = cc in
@@ -64,11 +66,11 @@ module _ (t disks : List ℕ) where
 
 -- What a reader of the parts from disk d on gives beside the two tables: both have all, or both end with the same refusal.
 pub data AllRead (t : List ℕ) (at d : ℕ) (slots held table : List ℕ) (l : Read (List (List ℕ))) : Carried → Type 0 where
-  complete : (lists : List (List ℕ)) (next : ℕ) → next ≤ at + length slots * 583 → l ≡ got lists (drop next (bits t))
+  complete : (lists : List (List ℕ)) (count next : ℕ) → next ≤ at + length slots * 583 → l ≡ got lists (drop next (bits t))
       → AllRead t at d slots held table l
-      (record { next = Ok next; held = sets held d (map length lists); table = set_rows table d lists })
+      (record { part = Ok (record { count = count; next = next }); held = sets held d (map length lists); table = set_rows table d lists })
   ended : (r : Refusal) (some left : List ℕ) → l ≡ stop (number r)
-      → AllRead t at d slots held table l (record { next = Err r; held = some; table = left })
+      → AllRead t at d slots held table l (record { part = Err r; held = some; table = left })
 
 module _ (t disks : List ℕ) where
   all_before : (at d slots next count : ℕ) (others held table vs : List ℕ) {l : Read (List (List ℕ))} {c : Carried} → next ≤ at + 583
@@ -77,17 +79,17 @@ module _ (t disks : List ℕ) where
       → AllRead t next (suc d) others (set held d count) (sets table (d * 64) vs) (carried_fields disks (suc d) others (drop next (bits t))) c
       → AllRead t at d (slots ∷ others) held table l c
   unfolding set_rows give
-  all_before at d slots next count others held table vs {l} near len e (complete lists last pos g) =
+  all_before at d slots next count others held table vs {l} near len e (complete lists n last pos g) =
       subst (λ (k : ℕ). AllRead t at d (slots ∷ others) held table l (record {
-        next = Ok last;
+        part = Ok (record { count = n; next = last });
         held = sets (set held d k) (suc d) (map length lists);
         table = set_rows (sets table (d * 64) vs) (suc d) lists;
       })) len
-      (complete (vs ∷ lists) last (omega (arith, near, pos)) (e ∙ bind_ok (carried_fields disks (suc d) others) _ _ g))
+      (complete (vs ∷ lists) n last (omega (arith, near, pos)) (e ∙ bind_ok (carried_fields disks (suc d) others) _ _ g))
   all_before at d slots next count others held table vs near len e (ended r some left g) =
       ended r some left (e ∙ bind-stop (carried_fields disks (suc d) others) _ _ g)
 
-  all_step : (at d slots : ℕ) (others held table : List ℕ) {f : Filled} → slots ≤ 64
+  all_step : (at d slots : ℕ) (others held table : List ℕ) {f : Filled (Unread Refusal)} → slots ≤ 64
       → PartRead t at (carried_row slots) 9 (length disks) (d * 64) table (λ n vs. give vs) (carried_field disks d slots (drop at (bits t))) f
       → ((p : Part) → AllRead t p.next (suc d) others (set held d p.count) f.table
       (carried_fields disks (suc d) others (drop p.next (bits t)))
@@ -98,12 +100,13 @@ module _ (t disks : List ℕ) where
   all_step at d slots others held table few (whole count next vs least below len small pos g) more =
       all_before at d slots next count others held table vs (omega (arith, pos, below, few)) len (bind_ok (carried_field disks d slots) _ _ g)
       (more (record { count = count; next = next }))
-  all_step at d slots others held table few (broken r left g) more = ended r held left (bind-stop (carried_field disks d slots) _ _ g)
+  all_step at d slots others held table few (broken r left g) more =
+      ended (unread_refusal r) held left (bind-stop (carried_field disks d slots) _ _ g)
 
   pub all_read : (at d : ℕ) (slots held table : List ℕ) → Below 65 slots
       → AllRead t at d slots held table (carried_fields disks d slots (drop at (bits t))) (carried_parts t disks at d slots held table)
   unfolding carried_parts carried_fields give set_rows
-  all_read at d [] held table small = complete [] at (omega arith) refl
+  all_read at d [] held table small = complete [] d at (omega arith) refl
   all_read at d (slots ∷ others) held table small =
       let few = small 0 (omega arith) in
       all_step at d slots others held table (omega (arith, few)) (disk_read t disks at d slots table)

@@ -5,11 +5,11 @@ ghost use Rattle.std.specs.Prelude.{◌≡◌, ◌+◌, ◌*◌, ◌^◌, ◌≤
 ghost use Rattle.bits.specs.Bits.{Below};
 ghost use Rattle.carried.specs.Carried.{carried_row, block_row, block_at, disk_part, carried_parts, Gives};
 
-use entries::{Part, Row, checked, fill};
+use entries::{Part, Row, Unread, checked, fill};
 use refusal::Refusal;
 
 // how many blocks are carried in on a disk: 0 to its slots
-fn carried_row(slots: usize) -> Row
+fn carried_row(slots: usize) -> Row<Refusal>
     requires { slots ≤ 64 }
     ensures { result ≡ carried_row slots }
 {
@@ -22,7 +22,7 @@ fn carried_row(slots: usize) -> Row
 }
 
 // a block that is carried in: above the one before it, and up to B − 1
-fn block_row(least: usize, blocks: usize) -> Row
+fn block_row(least: usize, blocks: usize) -> Row<Refusal>
     ensures { result ≡ block_row least blocks }
 {
     Row {
@@ -34,13 +34,19 @@ fn block_row(least: usize, blocks: usize) -> Row
 }
 
 // The number of a block on disk d at the bit `at`, `least` or more. `disk` has the disk of each block.
-fn block_at(t: &[u8], at: usize, least: usize, disk: &[u16], d: usize) -> Result<usize, Refusal>
+fn block_at(
+    t: &[u8],
+    at: usize,
+    least: usize,
+    disk: &[u16],
+    d: usize,
+) -> Result<usize, Unread<Refusal>>
     requires { at < 2 ^ 32 }
     ensures { result ≡ block_at t.now disk.now d at least }
 {
     let b = checked(t, at, block_row(least, disk.len()))?;
     if disk[b] as usize != d {
-        return Err(Refusal::CarriedBlock);
+        return Err(Unread::Outside(Refusal::CarriedBlock));
     }
     Ok(b)
 }
@@ -53,7 +59,7 @@ fn disk_part(
     d: usize,
     slots: usize,
     carried: &mut [u16; 512],
-) -> Result<Part, Refusal>
+) -> Result<Part, Unread<Refusal>>
     requires at_bound { at < 65000 }
     requires disk_len_bound { length disk.now ≤ 512 }
     requires d_bound { d < 8 }
@@ -72,7 +78,8 @@ fn disk_part(
     )
 }
 
-// The blocks carried in on all disks, in order, read from the bit `at` on, up to the first disk whose part is refused; and the bit after them.
+// The blocks carried in on all disks, in order, read from the bit `at` on, up to the first disk whose part is refused: how many disks there are, and
+// the bit after their blocks.
 pub fn carried_part(
     t: &[u8],
     at: usize,
@@ -80,7 +87,7 @@ pub fn carried_part(
     disk: &[u16],
     held: &mut [u8; 8],
     carried: &mut [u16; 512],
-) -> Result<usize, Refusal>
+) -> Result<Part, Refusal>
     requires { (at < 60000) × (length slots.now ≤ 8) × Below 65 slots.now × (length disk.now ≤ 512) }
     ensures { Gives (carried_parts t.now disk.now at 0 slots.now held.old carried.old)
         result held.new carried.new }
@@ -91,5 +98,8 @@ pub fn carried_part(
         held[d] = part.count as u8;
         next = part.next;
     }
-    Ok(next)
+    Ok(Part {
+        count: slots.len(),
+        next,
+    })
 }

@@ -7,7 +7,8 @@ use native.Mathlib.Omega.{arith}
 use lib.Dec.{ltb, leb}
 use lib.ListN.{drop}
 use borrow.Author.Tests.{ltb-false, leb-false, le-ltb}
-use Rattle.std.specs.Prelude.{Option, Some, None, Ok, Err}
+use Rattle.std.specs.Prelude.{Option, Some, None, Result, Ok, Err}
+use Rattle.refusal.specs.declared.Refusal.{Refusal}
 use Rattle.refusal.specs.Refusals.{number}
 use Rattle.bits.specs.Bits.{bits}
 use Rattle.bits.specs.Reading.{Reader, bind, ◌>>=◌, ◌>>◌, field, refuse_if}
@@ -16,13 +17,16 @@ use Rattle.bits.proofs.Fields.{field_then}
 use Rattle.bits.proofs.Logic.{by_test, or_false_left, or_false_right}
 use Rattle.entries.specs.Parts.{outside, entry_of, entry_at, entry_then}
 use Rattle.entries.specs.declared.Row.{Row}
+use Rattle.entries.specs.declared.Unread.{Unread}
+use Rattle.entries.specs.declared.Unread.TheVariants.{Outside}
 
 -- a value that is read is among those of its row
-pub entry-within : (t : List ℕ) (at : ℕ) (row : Row) {v : ℕ} → entry_at t at row ≡ Ok v → (row.least ≤ v) × (v < row.limit)
+pub entry-within : {R : Type 0} (t : List ℕ) (at : ℕ) (row : Row R) {v : ℕ} → entry_at t at row ≡ Ok v → (row.least ≤ v) × (v < row.limit)
 unfolding entry_at entry_of
-entry-within t at row {v} e = go (field_at t at row.width) e
+entry-within {R} t at row {v} e = go (field_at t at row.width) e
   where
-    tested : (x : ℕ) (b : Bool) → outside row x ≡ b → cond b (Err row.refusal) (Ok x) ≡ Ok v → (row.least ≤ v) × (v < row.limit)
+    tested : (x : ℕ) (b : Bool) → outside row x ≡ b
+        → ◌≡◌ {A = Result ℕ (Unread R)} (cond b (Err (Outside row.refusal)) (Ok x)) (Ok v) → (row.least ≤ v) × (v < row.limit)
     tested x true q p = absurd (let z : ◌≡◌ {A = ℕ} 0 1 = cc in omega arith)
     tested x false q p =
         let same : x ≡ v = cc in
@@ -36,7 +40,7 @@ entry-within t at row {v} e = go (field_at t at row.width) e
     go None p = absurd (let z : ◌≡◌ {A = ℕ} 0 1 = cc in omega arith)
 
 -- A field, and then the test of its row, as a reader reads them.
-pub entry_reads : {A : Type 0} (t : List ℕ) (at : ℕ) (row : Row) (test : ℕ → Bool) (more : ℕ → Reader A) → 0 < row.width
+pub entry_reads : {A : Type 0} (t : List ℕ) (at : ℕ) (row : Row Refusal) (test : ℕ → Bool) (more : ℕ → Reader A) → 0 < row.width
     → ((v : ℕ) → test v ≡ outside row v)
     → (field 1 row.width >>= λ v. refuse_if (number row.refusal) (test v) >> more v) (drop at (bits t))
     ≡ entry_then (drop (at + row.width) (bits t)) more (entry_at t at row)

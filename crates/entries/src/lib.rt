@@ -2,19 +2,37 @@
 #![tactic(auto)]
 
 ghost use Rattle.std.specs.Prelude.{◌≡◌, ℕ, ◌+◌, ◌^◌, ◌≤◌, ◌<◌, length};
-ghost use Rattle.entries.specs.Parts.{entry_at, Entries, of_row, fill, part_at};
+ghost use Rattle.entries.specs.Parts.{entry_at, Entries, of_row, fill, part_at, unread_refusal};
 
 use bits::read::field;
 use refusal::Refusal;
 
-// A row of document 01's table of ticket fields, or a field of document 02's L9: its bits, its values, from `least` on and below `limit`, and the
-// refusal of others.
+// A row of document 01's table of ticket fields, or a field of document 02's L9: its bits, its values, from `least` on and below `limit`, and what
+// refuses others.
 #[derive(Clone, Copy)]
-pub struct Row {
+pub struct Row<R> {
     pub width: usize,
     pub least: usize,
     pub limit: usize,
-    pub refusal: Refusal,
+    pub refusal: R,
+}
+
+// Why a field is not read: the bytes end inside it, or its value is not among those of its row, which says what refuses it.
+#[derive(Clone, Copy)]
+pub enum Unread<R> {
+    Ends,
+    Outside(R),
+}
+
+impl From<Unread<Refusal>> for Refusal {
+    ghost from_gives = { λ unread refusal. refusal ≡ unread_refusal unread };
+
+    fn from(unread: Unread<Refusal>) -> Self {
+        match unread {
+            Unread::Ends => Refusal::TicketEnds,
+            Unread::Outside(refusal) => refusal,
+        }
+    }
 }
 
 // A part of a ticket that was read: its count, and the bit after it.
@@ -25,30 +43,30 @@ pub struct Part {
 }
 
 // The field at the bit `at`, tested as its row says.
-pub fn checked(t: &[u8], at: usize, row: Row) -> Result<usize, Refusal>
+pub fn checked<R: Copy>(t: &[u8], at: usize, row: Row<R>) -> Result<usize, Unread<R>>
     requires width_bound { row.width ≤ 12 }
     requires at_bound { at < 2 ^ 32 }
     ensures { result ≡ entry_at t.now at row }
 {
     let Some(v) = field(t, at, row.width) else {
-        return Err(Refusal::TicketEnds);
+        return Err(Unread::Ends);
     };
     if v < row.least || row.limit <= v {
-        return Err(row.refusal);
+        return Err(Unread::Outside(row.refusal));
     }
     Ok(v)
 }
 
 // Entries, written from the place `from` on, up to the first that is refused: `entry` reads the one at a bit, given 1 above the value before it.
-pub fn fill<F: Fn(usize, usize) -> Result<usize, Refusal>>(
+pub fn fill<E: Copy, F: Fn(usize, usize) -> Result<usize, E>>(
     entry: F,
     width: usize,
     at: usize,
     from: usize,
     count: usize,
     table: &mut [u16],
-) -> Result<Part, Refusal>
-    ghost e: { Entries }
+) -> Result<Part, E>
+    ghost e: { Entries E }
     requires width_of { width ≡ e.width }
     requires width_bound { width ≤ 12 }
     requires at_bound { at < 65536 }
@@ -71,14 +89,39 @@ pub fn fill<F: Fn(usize, usize) -> Result<usize, Refusal>>(
     Ok(Part { count, next })
 }
 
-// A count and then as many entries, read from the bit `at` on.
-pub fn table_part(
+// Entries of a row, read from the bit `at` on into a table, up to the first that is refused.
+fn fill_table<R: Copy>(
     t: &[u8],
     at: usize,
-    counts: Row,
-    entries: Row,
+    row: Row<R>,
+    count: usize,
     table: &mut [u16],
-) -> Result<Part, Refusal>
+) -> Result<Part, Unread<R>>
+    requires width_bound { row.width ≤ 12 }
+    requires limit_bound { row.limit ≤ 65536 }
+    requires at_bound { at < 65536 }
+    requires count_bound { count ≤ 2048 }
+    requires count_in_bounds { count ≤ length table.old }
+    ensures value { result ≡ (fill (of_row t.now row) count at 0 0 count table.old).part }
+    ensures table_after { table.new ≡ (fill (of_row t.now row) count at 0 0 count table.old).table }
+{
+    let mut next = at;
+    for i in 0..count {
+        let v = checked(t, next, row)?;
+        table[i] = v as u16;
+        next += row.width;
+    }
+    Ok(Part { count, next })
+}
+
+// A count and then as many entries, read from the bit `at` on.
+pub fn table_part<R: Copy>(
+    t: &[u8],
+    at: usize,
+    counts: Row<R>,
+    entries: Row<R>,
+    table: &mut [u16],
+) -> Result<Part, Unread<R>>
     requires width_bound { counts.width ≤ 12 }
     requires width_bound_2 { entries.width ≤ 12 }
     requires limit_bound { entries.limit ≤ 65536 }
@@ -89,12 +132,5 @@ pub fn table_part(
     ensures table_after { table.new ≡ (part_at t.now at counts (of_row t.now entries) 0 table.old).table }
 {
     let count = checked(t, at, counts)?;
-    fill(
-        |at, _| checked(t, at, entries),
-        entries.width,
-        at + counts.width,
-        0,
-        count,
-        table,
-    )
+    fill_table(t, at + counts.width, entries, count, table)
 }

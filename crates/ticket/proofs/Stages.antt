@@ -21,10 +21,11 @@ use Rattle.model.specs.Ticket.{slots_field, disk_field, ref_field, ticket_reader
 use Rattle.job.specs.Meaning.{stored}
 use Rattle.ticket.specs.Meaning.{answer_of, ticket_read}
 use Rattle.ticket.specs.Rows.{disks_row, slots_row, blocks_row, disk_row, refs_row, ref_row}
-use Rattle.entries.specs.Parts.{of_row, Filled, part_at}
+use Rattle.entries.specs.Parts.{unread_refusal, of_row, Filled, part_at}
 use Rattle.carried.specs.Carried.{Carried}
 use Rattle.entries.specs.declared.Row.{Row}
 use Rattle.entries.specs.declared.Part.{Part}
+use Rattle.entries.specs.declared.Unread.{Unread}
 use Rattle.entries.proofs.Entries.{entry_reads, any_test}
 use Rattle.entries.proofs.Parts.{Reads, row_reads, PartRead, part_reads}
 use Rattle.ticket.proofs.Tables.{Got, part-got, part-stop, got_lent}
@@ -64,13 +65,13 @@ after_slots d slots = field 1 10 >>= λ b. refuse_if 4 (eqb b 0 || ltb 512 b) >>
 
 -- the three parts, each read into a table of zeros
 
-abbrev pub slots_part : List ℕ → Filled
+abbrev pub slots_part : List ℕ → Filled (Unread Refusal)
 slots_part t = part_at t 0 disks_row (of_row t slots_row) 0 (replicate 8 0)
 
-abbrev pub disks_part : List ℕ → ℕ → Row → Filled
+abbrev pub disks_part : List ℕ → ℕ → Row Refusal → Filled (Unread Refusal)
 disks_part t at row = part_at t at blocks_row (of_row t row) 0 (replicate 512 0)
 
-abbrev pub refs_part : List ℕ → ℕ → Row → Filled
+abbrev pub refs_part : List ℕ → ℕ → Row Refusal → Filled (Unread Refusal)
 refs_part t at row = part_at t at refs_row (of_row t row) 0 (replicate 2048 0)
 
 module _ (t : List ℕ) where
@@ -114,40 +115,40 @@ module _ (t : List ℕ) where
   pub slots-got : {p : Part} {slots : List ℕ} → (slots_part t).part ≡ Ok p → slots ≡ (slots_part t).table → Slots p slots
   slots-got e s = part-got t 0 disks_row 7 65 8 after_slots (ticket_reader (bits t)) (lit≤ tt) slots-part e s
 
-  pub slots-refused : {r : Refusal} → (slots_part t).part ≡ Err r → ticket_read t ≡ Err r
+  pub slots-refused : {r : Unread Refusal} → (slots_part t).part ≡ Err r → ticket_read t ≡ Err (unread_refusal r)
   slots-refused e = stopped _ (part-stop t 0 disks_row 7 65 8 after_slots (ticket_reader (bits t)) slots-part e)
 
-  module _ {p : Part} {slots : List ℕ} (a : Slots p slots) {row : Row} (is : row ≡ disk_row p.count) where
+  module _ {p : Part} {slots : List ℕ} (a : Slots p slots) {row : Row Refusal} (is : row ≡ disk_row p.count) where
     pub disks_got : {q : Part} {disk : List ℕ} → (disks_part t p.next row).part ≡ Ok q → disk ≡ (disks_part t p.next row).table → Disks p a.values q disk
     disks_got e s =
         part-got t p.next blocks_row 3 p.count 512 (after_disks a.values) _ (lit≤ tt) (disks-part p.next p.count a.values)
-        (ap (λ (x : Row). (disks_part t p.next x).part) (sym is) ∙ e)
-        (s ∙ ap (λ (x : Row). (disks_part t p.next x).table) is)
+        (ap (λ (x : Row Refusal). (disks_part t p.next x).part) (sym is) ∙ e)
+        (s ∙ ap (λ (x : Row Refusal). (disks_part t p.next x).table) is)
 
-    pub disks_refused : {r : Refusal} → (disks_part t p.next row).part ≡ Err r → ticket_read t ≡ Err r
+    pub disks_refused : {r : Unread Refusal} → (disks_part t p.next row).part ≡ Err r → ticket_read t ≡ Err (unread_refusal r)
     disks_refused e =
         stopped _
         (a.goes
         ∙ part-stop t p.next blocks_row 3 p.count 512 (after_disks a.values) _ (disks-part p.next p.count a.values)
-        (ap (λ (x : Row). (disks_part t p.next x).part) (sym is) ∙ e))
+        (ap (λ (x : Row Refusal). (disks_part t p.next x).part) (sym is) ∙ e))
 
   module _ {p : Part} {slots : List ℕ} (a : Slots p slots) {q : Part} {disk : List ℕ} (b : Disks p a.values q disk)
-      {row : Row} (is : row ≡ ref_row q.count) where
+      {row : Row Refusal} (is : row ≡ ref_row q.count) where
     pub refs-got : {r : Part} {refs : List ℕ} → (refs_part t q.next row).part ≡ Ok r → refs ≡ (refs_part t q.next row).table
         → Refs a.values q b.values r refs
     refs-got e s =
         part-got t q.next refs_row 9 q.count 2048 (after_refs a.values b.values) _ (lit≤ tt)
         (refs-part q.next q.count a.values b.values)
-        (ap (λ (x : Row). (refs_part t q.next x).part) (sym is) ∙ e)
-        (s ∙ ap (λ (x : Row). (refs_part t q.next x).table) is)
+        (ap (λ (x : Row Refusal). (refs_part t q.next x).part) (sym is) ∙ e)
+        (s ∙ ap (λ (x : Row Refusal). (refs_part t q.next x).table) is)
 
-    pub refs-refused : {r : Refusal} → (refs_part t q.next row).part ≡ Err r → ticket_read t ≡ Err r
+    pub refs-refused : {r : Unread Refusal} → (refs_part t q.next row).part ≡ Err r → ticket_read t ≡ Err (unread_refusal r)
     refs-refused e =
         stopped _
         (a.goes ∙ b.goes
         ∙ part-stop t q.next refs_row 9 q.count 2048 (after_refs a.values b.values) _
         (refs-part q.next q.count a.values b.values)
-        (ap (λ (x : Row). (refs_part t q.next x).part) (sym is) ∙ e))
+        (ap (λ (x : Row Refusal). (refs_part t q.next x).part) (sym is) ∙ e))
 
   module _ {p : Part} {slots : List ℕ} (a : Slots p slots) {q : Part} {disk : List ℕ} (b : Disks p a.values q disk)
       {r : Part} {refs : List ℕ} (c : Refs a.values q b.values r refs) where
@@ -161,16 +162,16 @@ module _ (t : List ℕ) where
     lent_part : end_part t a.values b.values r.next ≡ lent_end
     lent_part = sym (ap₂ (λ (x y : List ℕ). end_part t x y r.next) (got_lent a) (got_lent b))
 
-    pub end_refused : {n : Refusal} → lent_end.next ≡ Err n → ticket_read t ≡ Err n
+    pub end_refused : {n : Refusal} → lent_end.part ≡ Err n → ticket_read t ≡ Err n
     end_refused e =
-        stopped _ (ends ∙ end_stop t a.values b.values c.values r.next a.small (ap (λ (x : Carried). x.next) lent_part ∙ e))
+        stopped _ (ends ∙ end_stop t a.values b.values c.values r.next a.small (ap (λ (x : Carried). x.part) lent_part ∙ e))
 
-    pub end_closing : {next : ℕ} → lent_end.next ≡ Ok next → is_closed (drop next (bits t)) ≡ false → ticket_read t ≡ Err TicketClosing
+    pub end_closing : {last : Part} → lent_end.part ≡ Ok last → is_closed (drop last.next (bits t)) ≡ false → ticket_read t ≡ Err TicketClosing
     end_closing e k =
-        stopped TicketClosing (ends ∙ end_open t a.values b.values c.values r.next a.small (ap (λ (x : Carried). x.next) lent_part ∙ e) k)
+        stopped TicketClosing (ends ∙ end_open t a.values b.values c.values r.next a.small (ap (λ (x : Carried). x.part) lent_part ∙ e) k)
 
-    pub accepted : {next : ℕ} {held carried : List ℕ} → lent_end.next ≡ Ok next → held ≡ lent_end.held → carried ≡ lent_end.table
-        → is_closed (drop next (bits t)) ≡ true
+    pub accepted : {last : Part} {held carried : List ℕ} → lent_end.part ≡ Ok last → held ≡ lent_end.held → carried ≡ lent_end.table
+        → is_closed (drop last.next (bits t)) ≡ true
         → ticket_read t ≡ Ok (record {
           disks = p.count;
           slots = slots;
@@ -189,7 +190,7 @@ module _ (t : List ℕ) where
         let most = b.below in
         let end =
         end_got t a.values b.values c.values r.next a.small (omega (arith, d, least)) (omega (arith, n, most))
-        (ap (λ (x : Carried). x.next) lent_part ∙ e) (h ∙ ap (λ (x : Carried). x.held) (sym lent_part))
+        (ap (λ (x : Carried). x.part) lent_part ∙ e) (h ∙ ap (λ (x : Carried). x.held) (sym lent_part))
         (s ∙ ap (λ (x : Carried). x.table) (sym lent_part)) k
         in
         ap answer_of (read_all_ok ticket_reader t (ends ∙ end.gives))

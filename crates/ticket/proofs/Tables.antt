@@ -11,13 +11,14 @@ use Rattle.bits.specs.Bits.{bits, Below}
 use Rattle.bits.specs.Reading.{Read, stop, Reader}
 use Rattle.job.specs.Meaning.{pad_to}
 use Rattle.job.proofs.Laws.{take-pad_to, sets_zeros}
-use Rattle.entries.specs.Parts.{Filled}
+use Rattle.entries.specs.Parts.{unread_refusal, Filled}
 use Rattle.entries.specs.declared.Row.{Row}
 use Rattle.entries.specs.declared.Part.{Part}
+use Rattle.entries.specs.declared.Unread.{Unread}
 use Rattle.entries.proofs.Parts.{PartRead, whole, broken}
 
 -- A part that was read into a table of `size` zeros: its reader has the count and the entries, and goes on after the part.
-pub record Got {A : Type 0} (t : List ℕ) (at : ℕ) (counts : Row) (width limit size : ℕ) (more : ℕ → List ℕ → Reader A) (l : Read A)
+pub record Got {A : Type 0} (t : List ℕ) (at : ℕ) (counts : Row Refusal) (width limit size : ℕ) (more : ℕ → List ℕ → Reader A) (l : Read A)
     (p : Part) (table : List ℕ) : Type 0 where
   pub values : List ℕ
   pub least : counts.least ≤ p.count
@@ -28,8 +29,8 @@ pub record Got {A : Type 0} (t : List ℕ) (at : ℕ) (counts : Row) (width limi
   pub held : table ≡ pad_to size values
   pub goes : l ≡ more p.count values (drop p.next (bits t))
 
-module _ {A : Type 0} (t : List ℕ) (at : ℕ) (counts : Row) (width limit size : ℕ) (more : ℕ → List ℕ → Reader A) (l : Read A) where
-  pub part-got : {f : Filled} {p : Part} {table : List ℕ} → counts.limit ≤ size + 1
+module _ {A : Type 0} (t : List ℕ) (at : ℕ) (counts : Row Refusal) (width limit size : ℕ) (more : ℕ → List ℕ → Reader A) (l : Read A) where
+  pub part-got : {f : Filled (Unread Refusal)} {p : Part} {table : List ℕ} → counts.limit ≤ size + 1
       → PartRead t at counts width limit 0 (replicate size 0) more l f
       → f.part ≡ Ok p → table ≡ f.table → Got t at counts width limit size more l p table
   part-got {p = p} {table = table} h (whole count next vs least below len small pos e) q s =
@@ -47,12 +48,13 @@ module _ {A : Type 0} (t : List ℕ) (at : ℕ) (counts : Row) (width limit size
       })
   part-got h (broken r left e) q s = absurd (let z : ◌≡◌ {A = ℕ} 0 1 = cc in omega arith)
 
-  pub part-stop : {f : Filled} {r : Refusal} → PartRead t at counts width limit 0 (replicate size 0) more l f → f.part ≡ Err r → l ≡ stop (number r)
+  pub part-stop : {f : Filled (Unread Refusal)} {r : Unread Refusal}
+      → PartRead t at counts width limit 0 (replicate size 0) more l f → f.part ≡ Err r → l ≡ stop (number (unread_refusal r))
   part-stop (whole count next vs least below len small pos e) q = absurd (let z : ◌≡◌ {A = ℕ} 0 1 = cc in omega arith)
-  part-stop {r = r} (broken s left e) q = let same : s ≡ r = cc in e ∙ ap (λ (x : Refusal). stop (number x)) same
+  part-stop {r = r} (broken s left e) q = let same : s ≡ r = cc in e ∙ ap (λ (x : Unread Refusal). stop (number (unread_refusal x))) same
 
 -- as many entries of the table as the count says: they are there, and are those that the reader has
-module _ {A : Type 0} {t : List ℕ} {at : ℕ} {counts : Row} {width limit size : ℕ} {more : ℕ → List ℕ → Reader A} {l : Read A} {p : Part}
+module _ {A : Type 0} {t : List ℕ} {at : ℕ} {counts : Row Refusal} {width limit size : ℕ} {more : ℕ → List ℕ → Reader A} {l : Read A} {p : Part}
     {table : List ℕ} (g : Got t at counts width limit size more l p table) where
   pub got_room : p.count ≤ length table
   unfolding pad_to

@@ -1,5 +1,5 @@
 -- What reading a ticket gives, and reading it up to a stop. Assumes nothing.
-use Rattle.std.specs.Prelude.{cond, Result, Ok, Err, List, ℕ, ltb}
+use Rattle.std.specs.Prelude.{cond, Result, Ok, Err, List, ℕ, ltb, replicate}
 use Rattle.refusal.specs.declared.Refusal.{Refusal}
 use Rattle.refusal.specs.declared.Refusal.TheVariants.{Stop}
 use Rattle.refusal.specs.Refusals.{refusal_of}
@@ -19,6 +19,24 @@ answer_of (refused n) = Err (refusal_of n)
 unfoldable pub ticket_read : List ℕ → Result Stored Refusal
 unfolding answer_of
 ticket_read t = answer_of (ticket_of t)
+
+-- A job of zeros.
+abbrev pub no_job : Stored
+no_job = record {
+  disks = 0;
+  slots = replicate 8 0;
+  blocks = 0;
+  disk = replicate 512 0;
+  count = 0;
+  refs = replicate 2048 0;
+  held = replicate 8 0;
+  carried = replicate 512 0;
+}
+
+-- What a ticket is read as by a call that fills a job, or refuses.
+abbrev pub filled : Result Unit Refusal → Stored → Result Stored Refusal
+filled (Ok done) c = Ok c
+filled (Err r) c = Err r
 
 -- The value of an answer up to a stop: the job with the stop as its count, or the refusal. L5: "21, the stop is above N, tested after 8".
 unfoldable pub answer_up_to : ℕ → Answer Job → Result Stored Refusal

@@ -28,7 +28,7 @@ fill-requires c κs within =
     let small : (b least v : ℕ) → block_at c.args.t.now c.args.disk.now c.args.d b least ≡ Ok v → v < 65536 =
     λ b least v e. let w = block_within _ _ _ _ _ e in omega (arith, w)
     in
-    (search (⊑_meet, ⊑_static, within.0, within.1.0, within.1.1.0) depth 8, (refl, search (of_calls, rules, n.1, small)))
+    (search ⊑_static, (search (⊑_meet, ⊑_static, within.0, within.1.0, within.1.1.0) depth 8, (refl, search (of_calls, rules, n.1, small))))
 
 pub returns-clause-value : goal.returns-clause-value
 returns-clause-value c =

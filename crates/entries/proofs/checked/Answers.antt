@@ -6,12 +6,12 @@ use Rattle.entries.proofs.checked.Goals as goal
 
 pub returns-in_default : goal.returns-in_default
 unfolding entry_at entry_of
-returns-in_default c = grind (arith, nat_tests, c.in_default.ensures)
+returns-in_default g c = grind (arith, nat_tests, c.in_default.ensures)
 
 pub returns-then-v-row : goal.returns-then-v-row
 unfolding entry_at entry_of
-returns-then-v-row c = grind (arith, nat_tests, c.in-Some.ensures)
+returns-then-v-row g c = grind (arith, nat_tests, c.in-Some.ensures)
 
 pub returns : goal.returns
 unfolding entry_at entry_of
-returns c = grind (arith, nat_tests, c.in-Some.ensures)
+returns g c = grind (arith, nat_tests, c.in-Some.ensures)

@@ -1,12 +1,12 @@
 -- `entries::table_part` meets its contract: a count within its row has room in the table. Assumes nothing.
-use Rattle.std.proofs.Common.{◌≡◌, ℕ, ◌<◌, Ok, sym, ◌∙◌, rules, of_calls, refl, arith}
-use Rattle.entries.specs.Parts.{entry_at, of_row}
+use Rattle.std.proofs.Common.{sym, ◌∙◌, arith}
+use Rattle.entries.specs.Parts.{of_row}
 use Rattle.entries.proofs.Entries.{entry-within}
 use Rattle.entries.proofs.Filling.{part_entries, part-refused}
 use Rattle.entries.proofs.table_part.Goals as goal
 
 pub returns-in_err-count-clause-value : goal.returns-in_err-count-clause-value
-returns-in_err-count-clause-value c =
+returns-in_err-count-clause-value g c =
     let ends =
     part-refused c.args.t.now c.args.at c.args.counts (of_row c.args.t.now c.args.entries) 0 c.args.table.now
     (sym c.checked.ensures ∙ c.in_err-count.was)
@@ -14,24 +14,26 @@ returns-in_err-count-clause-value c =
     grind (arith, ends.0)
 
 pub returns-in_err-count-clause-table_after : goal.returns-in_err-count-clause-table_after
-returns-in_err-count-clause-table_after c =
+returns-in_err-count-clause-table_after g c =
     (part-refused c.args.t.now c.args.at c.args.counts (of_row c.args.t.now c.args.entries) 0 c.args.table.now
     (sym c.checked.ensures ∙ c.in_err-count.was)).1
 
-pub fill-requires : goal.fill-requires
-fill-requires c κs within =
+pub fill_table-requires-clause-count_bound : goal.fill_table-requires-clause-count_bound
+fill_table-requires-clause-count_bound g c =
     let n = entry-within c.args.t.now c.args.at c.args.counts (sym c.checked.ensures ∙ c.in_ok-count.was) in
-    let small : (b least v : ℕ) → entry_at c.args.t.now b c.args.entries ≡ Ok v → v < 65536 =
-    λ b least v e. let w = entry-within c.args.t.now b c.args.entries e in omega (arith, w)
-    in
-    (search rules, (refl, search (of_calls, rules, n.1, small)))
+    omega (arith, n.1)
+
+pub fill_table-requires-clause-count_in_bounds : goal.fill_table-requires-clause-count_in_bounds
+fill_table-requires-clause-count_in_bounds g c =
+    let n = entry-within c.args.t.now c.args.at c.args.counts (sym c.checked.ensures ∙ c.in_ok-count.was) in
+    omega (arith, n.1)
 
 pub returns-clause-value : goal.returns-clause-value
-returns-clause-value c =
+returns-clause-value g c =
     (part_entries c.args.t.now c.args.at c.args.counts (of_row c.args.t.now c.args.entries) 0 c.args.table.now
-    (sym c.checked.ensures ∙ c.in_ok-count.was) (c.fill.ensures.value, c.fill.ensures.table_after)).0
+    (sym c.checked.ensures ∙ c.in_ok-count.was) (c.fill_table.ensures.value, c.fill_table.ensures.table_after)).0
 
 pub returns-clause-table_after : goal.returns-clause-table_after
-returns-clause-table_after c =
+returns-clause-table_after g c =
     (part_entries c.args.t.now c.args.at c.args.counts (of_row c.args.t.now c.args.entries) 0 c.args.table.now
-    (sym c.checked.ensures ∙ c.in_ok-count.was) (c.fill.ensures.value, c.fill.ensures.table_after)).1
+    (sym c.checked.ensures ∙ c.in_ok-count.was) (c.fill_table.ensures.value, c.fill_table.ensures.table_after)).1
