@@ -1,5 +1,5 @@
 -- The pieces of a note, by the tests that the code makes. Assumes nothing.
-use mathlib.Core.Path.{◌≡◌}
+use mathlib.Core.Path.{◌≡◌, refl}
 use mathlib.Core.Bool.{true, false}
 use mathlib.Core.List.{List, ◌++◌}
 use Prim.Native.Nat.{ℕ, ◌+◌, ◌-◌, ◌*◌, ◌≤◌, ◌<◌}
@@ -43,36 +43,50 @@ module _ (t : List ℕ) (from : Place) (line : List ℕ) where
   unfolding block_laid
   laid_none e = rw e
 
+-- a note and a part that were refused
+module _ (t : List ℕ) (m : Met) where
+  pub closed-refused : closed_at t (Err m) ≡ Err m
+  unfolding closed_at
+  closed-refused = refl
+
+  pub counted-refused : counted_at t (Err m) ≡ Err m
+  unfolding counted_at
+  counted-refused = refl
+
+  pub line_refused : (from : Place) (line : List ℕ) → counted_line t (Err m) from line ≡ line
+  unfolding counted_line
+  line_refused from line = refl
+
 -- a note in parentheses, and a part with its count
 module _ (t : List ℕ) (p : Piece) where
-  pub closed_paren : begins_with 41 (drop p.at t) ≡ true → closed_at t p ≡ Ok (record { at = p.at + 1; count = p.count })
+  pub closed_paren : begins_with 41 (drop p.at t) ≡ true → closed_at t (Ok p) ≡ Ok (record { at = p.at + 1; count = p.count })
   unfolding closed_at
   closed_paren b = rw b
 
-  pub closed_wrong : begins_with 41 (drop p.at t) ≡ false → closed_at t p ≡ Err (malformed p.at)
+  pub closed_wrong : begins_with 41 (drop p.at t) ≡ false → closed_at t (Ok p) ≡ Err (malformed p.at)
   unfolding closed_at
   closed_wrong b = rw b
 
-  pub counted_wrong : {m : Met} → count_at t p.at ≡ Err m → counted_at t p ≡ Err m
+  pub counted_wrong : {m : Met} → count_at t p.at ≡ Err m → counted_at t (Ok p) ≡ Err m
   unfolding counted_at
   counted_wrong e = rw e
 
-  pub counted-times : {c : Counted} → count_at t p.at ≡ Ok c → counted_at t p ≡ Ok (record { at = c.at; count = capped (p.count * c.times) })
+  pub counted-times : {c : Counted} → count_at t p.at ≡ Ok c → counted_at t (Ok p) ≡ Ok (record { at = c.at; count = capped (p.count * c.times) })
   unfolding counted_at
   counted-times e = rw e
 
   -- and the line with that part repeated
   module _ (from : Place) (line : List ℕ) where
-    pub line_wrong : {m : Met} → count_at t p.at ≡ Err m → counted_line t p from line ≡ line
+    pub line_wrong : {m : Met} → count_at t p.at ≡ Err m → counted_line t (Ok p) from line ≡ line
     unfolding counted_line
     line_wrong e = rw e
 
-    pub line_full : {c : Counted} → count_at t p.at ≡ Ok c → 2048 < from.line + from.left + p.count * c.times → counted_line t p from line ≡ line
+    pub line_full : {c : Counted} → count_at t p.at ≡ Ok c → 2048 < from.line + from.left + p.count * c.times → counted_line t (Ok p) from line ≡ line
     unfolding counted_line
     line_full {c} e r = rw (e, no_room from (p.count * c.times) r)
 
     pub line_times : {c : Counted} → count_at t p.at ≡ Ok c → from.line + from.left + p.count * c.times ≤ 2048
-        → counted_line t p from line
+        → counted_line t (Ok p) from line
         ≡ take from.line line ++ (repeated c.times (take p.count (drop from.line line)) ++ drop (from.line + p.count * c.times) line)
     unfolding counted_line
     line_times {c} e r = rw (e, room from (p.count * c.times) r)

@@ -29,17 +29,19 @@ laid_from t from line (Some d) = cond (room_for from 1) (set line from.line (num
 unfoldable pub block_laid : List ℕ → Place → List ℕ → List ℕ
 block_laid t from line = laid_from t from line (first_digit (drop from.at t))
 
--- A note in parentheses, of which the note has been read: a parenthesis closes it.
-unfoldable pub closed_at : List ℕ → Piece → Result Piece Met
-closed_at t p = cond (begins_with (code ")") (drop p.at t)) (Ok (record { at = p.at + 1; count = p.count })) (Err (malformed p.at))
+-- A note in parentheses, of which the note has been read: a parenthesis closes it. A note that was refused stays refused.
+unfoldable pub closed_at : List ℕ → Result Piece Met → Result Piece Met
+closed_at t (Ok p) = cond (begins_with (code ")") (drop p.at t)) (Ok (record { at = p.at + 1; count = p.count })) (Err (malformed p.at))
+closed_at t (Err m) = Err m
 
--- A part with the count that follows it, and the line with that part repeated.
+-- A part with the count that follows it, and the line with that part repeated. A part that was refused stays refused, and the line stays.
 abbrev pub counted_by : Piece → Result Counted Met → Result Piece Met
 counted_by p (Ok c) = Ok (record { at = c.at; count = capped (p.count * c.times) })
 counted_by p (Err m) = Err m
 
-unfoldable pub counted_at : List ℕ → Piece → Result Piece Met
-counted_at t p = counted_by p (count_at t p.at)
+unfoldable pub counted_at : List ℕ → Result Piece Met → Result Piece Met
+counted_at t (Ok p) = counted_by p (count_at t p.at)
+counted_at t (Err m) = Err m
 
 abbrev pub line_by : Piece → Place → List ℕ → Result Counted Met → List ℕ
 line_by p from line (Ok c) =
@@ -48,5 +50,6 @@ line_by p from line (Ok c) =
     line
 line_by p from line (Err m) = line
 
-unfoldable pub counted_line : List ℕ → Piece → Place → List ℕ → List ℕ
-counted_line t p from line = line_by p from line (count_at t p.at)
+unfoldable pub counted_line : List ℕ → Result Piece Met → Place → List ℕ → List ℕ
+counted_line t (Ok p) from line = line_by p from line (count_at t p.at)
+counted_line t (Err m) from line = line

@@ -3,6 +3,7 @@
 #![tactic(auto)]
 
 ghost use Rattle.std.specs.Prelude.{◌≡◌, ◌≤◌, length};
+ghost use Rattle.std.specs.Result.{ForOk};
 ghost use Rattle.building.specs.Building.{block_at, block_laid, closed_at, counted_at, counted_line};
 
 use mixing::Place;
@@ -33,10 +34,11 @@ pub fn read_block(text: &[u8], from: Place, line: &mut [u16]) -> Result<Piece, M
     Ok(Piece { at: n.at, count: 1 })
 }
 
-// The parenthesis that closes a note.
-pub fn closed(text: &[u8], inner: Piece) -> Result<Piece, Met>
+// The parenthesis that closes a note; a note that was refused stays refused.
+pub fn closed(text: &[u8], inner: Result<Piece, Met>) -> Result<Piece, Met>
     ensures { result ≡ closed_at text.now inner }
 {
+    let inner = inner?;
     if !pieces::is_at(text, inner.at, b')') {
         return Err(pieces::malformed(inner.at));
     }
@@ -46,12 +48,18 @@ pub fn closed(text: &[u8], inner: Piece) -> Result<Piece, Met>
     })
 }
 
-// A part with the count that follows it, repeated at the end of the line.
-pub fn counted(text: &[u8], part: Piece, from: Place, line: &mut [u16]) -> Result<Piece, Met>
-    requires { (from.line ≤ 2049) × (from.left ≤ 2049) × (length line.old ≡ 2048) × (part.count ≤ 2049) }
+// A part with the count that follows it, repeated at the end of the line; a part that was refused stays refused.
+pub fn counted(
+    text: &[u8],
+    part: Result<Piece, Met>,
+    from: Place,
+    line: &mut [u16],
+) -> Result<Piece, Met>
+    requires { (from.line ≤ 2049) × (from.left ≤ 2049) × (length line.old ≡ 2048) × ForOk part (λ p. p.count ≤ 2049) }
     ensures piece { result ≡ counted_at text.now part }
     ensures repeats { line.new ≡ counted_line text.now part from line.old }
 {
+    let part = part?;
     let c = pieces::count_after(text, part.at)?;
     let count = part.count * c.times;
     let begin = from.line;

@@ -1,6 +1,7 @@
 -- An item by its parts: a block or a note in parentheses, and the count that may follow. Assumes nothing.
 use mathlib.Core.Path.{◌≡◌, refl, sym, ap, ◌∙◌}
 use Rattle.std.proofs.Common.{Option, Some, None, Result, Ok, Err}
+use Rattle.std.specs.Result.{ForOk}
 use mathlib.Core.Bool.{true, false}
 use mathlib.Core.List.{List, [], ◌∷◌, append-nil}
 use mathlib.Core.Logic.{⊎_elim}
@@ -163,9 +164,10 @@ module _ (t : List ℕ) (from : Place) (e : begins_with 40 (drop from.at t) ≡ 
           let none_left : drop r.at t ≡ [] = drop_past t r.at (omega arith) in
           record { met = λ b o h. opened b o h k ∙ n.scanned (b ∷ o) (omega arith) ∙ rw none_left }
 
-    pub inside-read : (r : Piece) → NoteRead t place line₀ left₀ line left (Ok r) → PartRead t from line₀ left₀ line left (closed_at t r)
+    pub inside-read : (r : Result Piece Met) → NoteRead t place line₀ left₀ line left r → PartRead t from line₀ left₀ line left (closed_at t r)
     unfolding NoteRead closed_at
-    inside-read r w =
+    inside-read (Err m) w = inside-refused w
+    inside-read (Ok r) w =
         by_test (begins_with 41 (drop r.at t))
         (λ c. rw c (inside (note_with w.0 w.1), inside-got r w.0 w.1 w.2 c))
         (λ c. rw c (inside_open r w.0 w.1 w.2 c))
@@ -295,14 +297,21 @@ module _ (t : List ℕ) (from : Place) (line₀ left₀ line left : List ℕ) (p
           built = repeated-built;
         }
 
-  pub counted-read : ItemRead t from line₀ left₀ (counted_line t part from line) left (counted_at t part)
-  unfolding ItemRead counted_line counted_at
-  counted-read = go (count_at t part.at) (count-read t part.at p g.within g.ended)
-    where
-      go : (x : Result Counted Met) → CountRead t part.at p x → ItemRead t from line₀ left₀ (line_by part from line x) left (counted_by part x)
-      go (Ok c) w = (w.0, counted-got c w.0 w.1)
-      go (Err m) w = record { met = λ b o h. g.scanned b o h ∙ w.met b o (omega arith) }
+  part_counted : (x : Result Counted Met) → CountRead t part.at p x → ItemRead t from line₀ left₀ (line_by part from line x) left (counted_by part x)
+  unfolding ItemRead
+  part_counted (Ok c) w = (w.0, counted-got c w.0 w.1)
+  part_counted (Err m) w = record { met = λ b o h. g.scanned b o h ∙ w.met b o (omega arith) }
 
--- a part's count is at most 2049
-pub part-few : (t : List ℕ) (from : Place) (line₀ left₀ line left : List ℕ) (r : Piece) (p : Part) → PartGot t from line₀ left₀ line left r p → r.count ≤ 2049
-part-few t from line₀ left₀ line left r p g = let n = g.counted in omega arith
+-- What was read of a part, with the count that may follow; a part that was refused stays refused.
+module _ (t : List ℕ) (from : Place) (line₀ left₀ line left : List ℕ) where
+  pub counted-read : (r : Result Piece Met) → length line ≡ 2048 → PartRead t from line₀ left₀ line left r
+      → ItemRead t from line₀ left₀ (counted_line t r from line) left (counted_at t r)
+  unfolding ItemRead counted_line counted_at
+  counted-read (Ok r) long w =
+      part_counted t from line₀ left₀ line left r long w.0 w.1 (count_at t r.at) (count-read t r.at w.0 w.1.within w.1.ended)
+  counted-read (Err m) long w = w
+
+  -- a part's count is at most 2049
+  pub part-few : (r : Result Piece Met) → PartRead t from line₀ left₀ line left r → ForOk r (λ p. p.count ≤ 2049)
+  part-few (Ok r) w p e = let n = w.1.counted in let is : r ≡ p = cc in rw (← is) (omega arith)
+  part-few (Err m) w p e = absurd (cc)

@@ -148,7 +148,7 @@ module _ (t : List ℕ) (from : Place) (line₀ left₀ line left : List ℕ) (a
 
     -- the side is complete
     complete_built : from.line + from.left + note_count (note_with b i) ≤ 2048
-        → Ends from.line line₀ [] line₁ × Holds from.left left₀ (note_refs (note_with b i)) (side_mixed line₁ from sides left₁)
+        → Ends from.line line₀ [] line₁ × Holds from.left left₀ (note_refs (note_with b i)) (side_mixed true line₁ from sides left₁)
     complete_built f =
         let d = side-count b.items i in
         let n = note-count b.sides (side_with b.items i) in
@@ -176,7 +176,7 @@ module _ (t : List ℕ) (from : Place) (line₀ left₀ line left : List ℕ) (a
 
     -- another side
     pub side_follows : {to : ℕ} → GoesOn t r.at i with_side to
-        → SoFar t from line₀ left₀ line₁ (side_mixed line₁ from sides left₁) to 0 (capped (mixed + sides.side)) (with_side b i)
+        → SoFar t from line₀ left₀ line₁ (side_mixed true line₁ from sides left₁) to 0 (capped (mixed + sides.side)) (with_side b i)
     side_follows g =
         record {
           begun = let p = s.begun in let q = x.further in let n = g.on in omega arith;
@@ -188,7 +188,7 @@ module _ (t : List ℕ) (from : Place) (line₀ left₀ line left : List ℕ) (a
 
     -- the end of the note
     pub note-ends : (r.at ≡ length t) ⊎ (begins_with 41 (drop r.at t) ≡ true)
-        → NoteGot t from line₀ left₀ (taken_back (side_mixed line₁ from sides left₁) from (capped (mixed + sides.side)) line₁) (side_mixed line₁ from sides left₁)
+        → NoteGot t from line₀ left₀ (taken_back (side_mixed true line₁ from sides left₁) from (capped (mixed + sides.side)) line₁) (side_mixed true line₁ from sides left₁)
         (record { at = r.at; count = capped (mixed + sides.side) }) b i
     note-ends e =
         record {
@@ -198,7 +198,7 @@ module _ (t : List ℕ) (from : Place) (line₀ left₀ line left : List ℕ) (a
           ends = e;
           counted = mixed-is;
           built = λ f.
-              let left₂ = side_mixed line₁ from sides left₁ in
+              let left₂ = side_mixed true line₁ from sides left₁ in
               let refs = note_refs (note_with b i) in
               let u = complete_built f in
               let w = note_count_is (note_with b i) in

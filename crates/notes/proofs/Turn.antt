@@ -1,5 +1,5 @@
 -- One turn of the loop over the items of a note, by what the calls in it return. Assumes nothing.
-use Rattle.std.proofs.Common.{◌≡◌, ℕ, ◌+◌, ◌≤◌, ◌<◌, List, Result, Ok, Err, length, sym, subst, arith}
+use Rattle.std.proofs.Common.{◌≡◌, true, ℕ, ◌+◌, ◌≤◌, ◌<◌, List, Result, Ok, Err, length, sym, subst, arith}
 use Rattle.grammar.specs.Note.{Item}
 use Rattle.grammar.specs.Reading.{Before}
 use Rattle.pieces.specs.Pieces.{joint_at}
@@ -62,8 +62,8 @@ module _ (t : List ℕ) (from : Place) (line₀ left₀ line left : List ℕ) (a
               ),
             )
 
-        module _ (sides : Sides) (v : sides ≡ sides_after (record { side = k; mixed = mixed })) (left₂ : List ℕ)
-            (w : left₂ ≡ side_mixed line₁ from (record { side = k; mixed = mixed }) left₁) where
+        module _ (sides : Sides) (v : sides ≡ sides_after true (record { side = k; mixed = mixed })) (left₂ : List ℕ)
+            (w : left₂ ≡ side_mixed true line₁ from (record { side = k; mixed = mixed }) left₁) where
           -- another side,
           pub next-side : (to : ℕ) → Ok (ASide to) ≡ joint_at t r.at
               → (at < to) × (to ≤ length t) × ((x : Before) × SoFar t from line₀ left₀ line₁ left₂ to sides.side sides.mixed x)

@@ -174,8 +174,9 @@ module _ (t lent line₀ left₀ line left : List ℕ) where
     unfolding NoteRead
     too_many_read last many = call_refused t lent NoteReferences (many-answer t (length lent) line₀ left₀ line left p h.0 h.1 h.2 last many)
 
-    pub note_given : p.at ≡ length t → p.count ≤ 2048 → p.count ≤ length lent → length line ≡ 2048 → (l : List ℕ) → l ≡ take p.count line ++ drop p.count lent
-        → let a = note_answer t (length lent) in (Ok p.count ≡ passes_as a) × (l ≡ refs_after a lent) × Exact t lent l (Ok p.count)
+    pub note_given : p.at ≡ length t → (count : ℕ) → count ≡ p.count → count ≤ 2048 → count ≤ length lent → length line ≡ 2048
+        → (l : List ℕ) → l ≡ take count line ++ drop count lent
+        → let a = note_answer t (length lent) in (Ok count ≡ passes_as a) × (l ≡ refs_after a lent) × Exact t lent l (Ok count)
     unfolding NoteRead
-    note_given last few fits long =
-        call_given t lent line p.count few long (whole-answer t (length lent) line₀ left₀ line left p h.0 h.1 h.2 last few fits)
+    note_given last count same few fits long =
+        call_given t lent line count few long (rw same (whole-answer t (length lent) line₀ left₀ line left p h.0 h.1 h.2 last (omega arith) (omega arith)))

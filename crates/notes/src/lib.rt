@@ -33,10 +33,10 @@ fn read_item(text: &[u8], from: Place, line: &mut [u16], left: &mut [u16]) -> Re
             depth: from.depth - 1,
             ..from
         };
-        let inner = read_note(text, within, line, left)?;
-        building::closed(text, inner)?
+        let inner = read_note(text, within, line, left);
+        building::closed(text, inner)
     } else {
-        building::read_block(text, from, line)?
+        building::read_block(text, from, line)
     };
     building::counted(text, part, from, line)
 }
@@ -63,10 +63,10 @@ fn read_note(text: &[u8], from: Place, line: &mut [u16], left: &mut [u16]) -> Re
             Joint::Item(next) => at = next,
             Joint::Side(next) => {
                 at = next;
-                sides = sides::mix_side(line, left, from, sides);
+                sides = sides::mix_side(line, left, from, sides, true);
             }
             Joint::End => {
-                let whole = sides::mix_side(line, left, from, sides);
+                let whole = sides::mix_side(line, left, from, sides, true);
                 sides::take_back(line, left, from, whole.mixed);
                 return Ok(Piece {
                     at: item.at,

@@ -1,5 +1,6 @@
 -- The sides of a note, by the tests that the code makes. Assumes nothing.
-use mathlib.Core.Path.{◌≡◌}
+use mathlib.Core.Path.{◌≡◌, refl}
+use mathlib.Core.Bool.{true, false}
 use mathlib.Core.List.{List, ◌++◌}
 use Prim.Native.Nat.{ℕ, ◌+◌, ◌-◌, ◌≤◌, ◌<◌}
 use native.Mathlib.Omega.{arith}
@@ -13,13 +14,17 @@ use Rattle.sides.specs.Sides.{side_mixed, taken_back}
 
 -- a side that is mixed with those before it
 module _ (line : List ℕ) (from : Place) (s : Sides) (left : List ℕ) where
-  pub side_full : 2048 < from.line + from.left + (s.mixed + s.side) → side_mixed line from s left ≡ left
+  pub side_begun : side_mixed false line from s left ≡ left
+  unfolding side_mixed
+  side_begun = refl
+
+  pub side_full : 2048 < from.line + from.left + (s.mixed + s.side) → side_mixed true line from s left ≡ left
   unfolding side_mixed
   side_full h = rw (no_room from (s.mixed + s.side) h)
 
   pub side_fits : from.line + from.left + (s.mixed + s.side) ≤ 2048
       → let top = 2048 - from.left in
-      side_mixed line from s left
+      side_mixed true line from s left
       ≡ take (top - (s.mixed + s.side)) left
       ++ (in_turn (take s.mixed (drop (top - s.mixed) left)) (take s.side (drop from.line line)) ++ drop top left)
   unfolding side_mixed

@@ -15,12 +15,15 @@ pub struct Sides {
 }
 
 // A side at the end of the line that is complete, mixed with the sides before it, on the left.
-pub fn mix_side(line: &[u16], left: &mut [u16], from: Place, sides: Sides) -> Sides
+pub fn mix_side(line: &[u16], left: &mut [u16], from: Place, sides: Sides, complete: bool) -> Sides
     requires ready { Ready from line.now left.old }
     requires side_bound { (sides.side ≤ 2049) × (sides.mixed ≤ 2049) }
-    ensures counts { result ≡ sides_after sides }
-    ensures mixes { left.new ≡ side_mixed line.now from sides left.old }
+    ensures counts { result ≡ sides_after complete sides }
+    ensures mixes { left.new ≡ side_mixed complete line.now from sides left.old }
 {
+    if !complete {
+        return sides;
+    }
     let count = sides.mixed + sides.side;
     let begin = from.line;
     if begin + from.left + count <= 2048 {

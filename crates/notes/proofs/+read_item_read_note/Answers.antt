@@ -1,16 +1,15 @@
 -- The proof of the cycle of calls {read_item, read_note}: an item is a block or a note in parentheses, with a count; and what a turn of the loop over
 -- the items of a note does is in `proofs/Turn.antt`. Assumes nothing.
-use Rattle.std.proofs.Common.{◌≡◌, Err, arith, rules, sym, subst, ◌∙◌}
+use Rattle.std.proofs.Common.{◌≡◌, Err, arith, rules, sym, ◌∙◌}
 use Rattle.bits.proofs.Logic.{some_number}
-use Rattle.grammar.specs.Note.{Part}
 use Rattle.grammar.specs.Reading.{nothing}
 use Rattle.pieces.proofs.Laws.{begins_within}
-use Rattle.notes.specs.Readers.{ItemRead, NoteRead}
-use Rattle.notes.proofs.Parts.{PartGot, PartRead, part-few, deep-refused, inside-refused, inside-read, block_read, counted-read}
+use Rattle.notes.specs.Readers.{ItemRead}
+use Rattle.notes.proofs.Parts.{PartRead, part-few, deep-refused, inside-read, block_read, counted-read}
 use Rattle.notes.proofs.SoFar.{so_far_none}
 use Rattle.notes.proofs.Turn.{item-wrong, counts-few, joint-wrong, same-side, next-side, note-over}
 use Rattle.notes.proofs.+read_item_read_note.Goals as goal
-use Rattle.notes.proofs.+read_item_read_note.Goals.{read_item-then-is_at+else-from-eq0+in_ok-inner+in_ok-part, read_item-else-is_at+in_ok-part-2}
+use Rattle.notes.proofs.+read_item_read_note.Goals.{read_item-then-is_at+else-from-eq0, read_item-else-is_at}
 
 pub read_item-returns-then-from-eq0 : goal.read_item-returns-then-from-eq0
 unfolding ItemRead
@@ -20,58 +19,28 @@ read_item-returns-then-from-eq0 t c = deep-refused c.args.text.now c.args.from (
 pub read_item-overflow_add-within : goal.read_item-overflow_add-within
 read_item-overflow_add-within t c = omega (arith, begins_within _ c.args.text.now c.args.from.at c.is_at.ensures c.if-is_at.true)
 
--- a note in parentheses
-pub read_item-returns-in_err-inner : goal.read_item-returns-in_err-inner
-unfolding ItemRead NoteRead
-read_item-returns-in_err-inner t c =
-    let e : c.from_residual.result ≡ Err c.in_err-inner.field-0.0 = search rules in
-    rw e (inside-refused c.args.text.now c.args.from (sym c.if-is_at.ensures) (some_number _ c.if-from-eq0.false) c.args.line.now c.args.left.now
-    c.read_note.new.line c.read_note.new.left c.in_err-inner.ensures)
-
-pub read_item-returns-in_err-part : goal.read_item-returns-in_err-part
-unfolding ItemRead
-read_item-returns-in_err-part t c =
-    let e : c.from_residual-in_err-part.result ≡ Err c.in_err-part.field-0.0 = search rules in
-    rw e (subst (PartRead c.args.text.now c.args.from c.args.line.now c.args.left.now c.read_note.new.line c.read_note.new.left) (sym c.in_err-part.ensures)
-    (inside-read c.args.text.now c.args.from (sym c.if-is_at.ensures) (some_number _ c.if-from-eq0.false) c.args.line.now c.args.left.now _ _
-    c.in_ok-inner.inner c.in_ok-inner.ensures))
-
--- a block
-pub read_item-returns-in_err-part-2 : goal.read_item-returns-in_err-part-2
-unfolding ItemRead
-read_item-returns-in_err-part-2 t c =
-    let e : c.from_residual-in_err-part-2.result ≡ Err c.in_err-part-2.field-0.0 = search rules in
-    rw e (subst (PartRead c.args.text.now c.args.from c.args.line.now c.args.left.now _ c.args.left.now) (sym c.in_err-part-2.ensures.piece)
-    (block_read c.args.text.now c.args.from c.args.line.now c.args.left.now c.requires.line_long (sym c.if-is_at.ensures)))
-
+-- a note in parentheses, or a block, and then the count
 pub read_item-counted-requires : goal.read_item-counted-requires
 read_item-counted-requires t c =
-    let part : (p : Part) × PartGot c.args.text.now c.args.from c.args.line.now c.args.left.now c.if-is_at.line c.if-is_at.left c.if-is_at.part p =
+    let part : PartRead c.args.text.now c.args.from c.args.line.now c.args.left.now c.if-is_at.line c.if-is_at.left c.if-is_at.part =
     elim c.if-is_at.branch [
-      | read_item-then-is_at+else-from-eq0+in_ok-inner+in_ok-part w ↦ rw (w.line-is, w.left-is, w.part-is)
-          (subst (PartRead c.args.text.now c.args.from c.args.line.now c.args.left.now w.read_note.new.line w.read_note.new.left) (sym w.in_ok-part.ensures)
-          (inside-read c.args.text.now c.args.from (sym w.if-is_at.ensures) (some_number _ w.if-from-eq0.false) c.args.line.now c.args.left.now _ _
-          w.in_ok-inner.inner w.in_ok-inner.ensures))
-      | read_item-else-is_at+in_ok-part-2 w ↦ rw (w.line-is, w.left-is, w.part-is, w.in_ok-part-2.ensures.laid)
-          (subst (PartRead c.args.text.now c.args.from c.args.line.now c.args.left.now _ c.args.left.now) (sym w.in_ok-part-2.ensures.piece)
-          (block_read c.args.text.now c.args.from c.args.line.now c.args.left.now c.requires.line_long (sym w.if-is_at.ensures)))
+      | read_item-then-is_at+else-from-eq0 w ↦ rw (w.line-is, w.left-is, w.part-is, w.closed-part.ensures)
+          (inside-read c.args.text.now c.args.from (sym w.if-is_at.ensures) (some_number _ w.if-from-eq0.false) c.args.line.now c.args.left.now _ _ _ w.read_note-inner.ensures)
+      | read_item-else-is_at w ↦ rw (w.line-is, w.left-is, w.part-is, w.read_block-part.ensures.piece, w.read_block-part.ensures.laid)
+          (block_read c.args.text.now c.args.from c.args.line.now c.args.left.now c.requires.line_long (sym w.if-is_at.ensures))
     ] in
-    (c.requires.few, c.requires.fewer, c.if-is_at.auto.line ∙ c.requires.line_long, part-few _ _ _ _ _ _ _ part.0 part.1)
+    (c.requires.few, c.requires.fewer, c.if-is_at.auto.line ∙ c.requires.line_long, part-few _ _ _ _ _ _ _ part)
 
 pub read_item-returns : goal.read_item-returns
 read_item-returns t c =
-    let part : (p : Part) × PartGot c.args.text.now c.args.from c.args.line.now c.args.left.now c.if-is_at.line c.if-is_at.left c.if-is_at.part p =
+    let part : PartRead c.args.text.now c.args.from c.args.line.now c.args.left.now c.if-is_at.line c.if-is_at.left c.if-is_at.part =
     elim c.if-is_at.branch [
-      | read_item-then-is_at+else-from-eq0+in_ok-inner+in_ok-part w ↦ rw (w.line-is, w.left-is, w.part-is)
-          (subst (PartRead c.args.text.now c.args.from c.args.line.now c.args.left.now w.read_note.new.line w.read_note.new.left) (sym w.in_ok-part.ensures)
-          (inside-read c.args.text.now c.args.from (sym w.if-is_at.ensures) (some_number _ w.if-from-eq0.false) c.args.line.now c.args.left.now _ _
-          w.in_ok-inner.inner w.in_ok-inner.ensures))
-      | read_item-else-is_at+in_ok-part-2 w ↦ rw (w.line-is, w.left-is, w.part-is, w.in_ok-part-2.ensures.laid)
-          (subst (PartRead c.args.text.now c.args.from c.args.line.now c.args.left.now _ c.args.left.now) (sym w.in_ok-part-2.ensures.piece)
-          (block_read c.args.text.now c.args.from c.args.line.now c.args.left.now c.requires.line_long (sym w.if-is_at.ensures)))
+      | read_item-then-is_at+else-from-eq0 w ↦ rw (w.line-is, w.left-is, w.part-is, w.closed-part.ensures)
+          (inside-read c.args.text.now c.args.from (sym w.if-is_at.ensures) (some_number _ w.if-from-eq0.false) c.args.line.now c.args.left.now _ _ _ w.read_note-inner.ensures)
+      | read_item-else-is_at w ↦ rw (w.line-is, w.left-is, w.part-is, w.read_block-part.ensures.piece, w.read_block-part.ensures.laid)
+          (block_read c.args.text.now c.args.from c.args.line.now c.args.left.now c.requires.line_long (sym w.if-is_at.ensures))
     ] in
-    rw (c.counted.ensures.piece, c.counted.ensures.repeats)
-    (counted-read _ _ _ _ _ _ _ (c.if-is_at.auto.line ∙ c.requires.line_long) part.0 part.1)
+    rw (c.counted.ensures.piece, c.counted.ensures.repeats) (counted-read _ _ _ _ _ _ _ (c.if-is_at.auto.line ∙ c.requires.line_long) part)
 
 pub read_note-loop-item-init : goal.read_note-loop-item-init
 read_note-loop-item-init t c = (nothing, so_far_none c.args.text.now c.args.from c.args.line.now c.args.left.now, c.requires)

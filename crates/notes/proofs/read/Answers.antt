@@ -1,5 +1,5 @@
 -- `notes::read` meets its contract: what was read of the note decides what the call gives. Assumes nothing.
-use Rattle.std.proofs.Common.{◌≡◌, Err, inl, inr, rules}
+use Rattle.std.proofs.Common.{◌≡◌, Err, inl, inr, arith, rules}
 use Rattle.notes.proofs.Whole.{not_read, not_closed, too_many_read, note_given}
 use Rattle.notes.proofs.read.Goals as goal
 
@@ -15,9 +15,9 @@ returns-then-whole-note c =
 pub returns-then-count-gt2048 : goal.returns-then-count-gt2048
 returns-then-count-gt2048 c =
     too_many_read c.args.note.now c.args.refs.now _ _ c.read_note.new.line c.read_note.new.left c.in_ok-whole.whole c.in_ok-whole.ensures c.if-whole-note.false
-    (elim c.then-count-gt2048.either [ inl e ↦ inl e | inr e ↦ inr e.1 ])
+    (elim c.then-count-gt2048.either [ inl e ↦ inl (omega arith) | inr e ↦ inr (omega arith) ])
 
 pub returns : goal.returns
 returns c =
     note_given c.args.note.now c.args.refs.now _ _ c.read_note.new.line c.read_note.new.left c.in_ok-whole.whole c.in_ok-whole.ensures c.if-whole-note.false
-    c.if-count-gt2048.false c.if-refs-count.false c.read_note.auto.line _ (rw c.copy_from_slice.ensures.after)
+    _ (omega arith) c.if-count-gt2048.false c.if-refs-count.false c.read_note.auto.line _ (rw c.copy_from_slice.ensures.after)

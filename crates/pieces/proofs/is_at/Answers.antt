@@ -1,5 +1,5 @@
 -- `pieces::is_at` meets its contract: past the end nothing stands, and before it a character does. Assumes nothing.
-use Rattle.std.proofs.Common.{◌≡◌, ℕ, List, Bor, Option, Some, None, eqb, drop, refl, ◌∙◌}
+use Rattle.std.proofs.Common.{◌≡◌, ℕ, List, Bor, Option, Some, None, eqb, drop, arith, refl, ap, ◌∙◌}
 use Rattle.std.specs.Option.{option_eq}
 use Rattle.std.specs.Slice.{IsItemAt}
 use Rattle.pieces.specs.Pieces.{begins_with}
@@ -12,4 +12,6 @@ stands t at c None x e h = rw (drop_past t at h.3)
 stands t at c (Some y) x e h = rw (char_at t at h.3.0, h.3.1 0, e)
 
 pub returns : goal.returns
-returns c = c.eq.ensures ∙ stands c.args.text.now c.args.at c.args.c c.get.result _ refl c.get.ensures.lookup
+returns c =
+    c.eq.ensures ∙ stands c.args.text.now _ c.args.c c.get.result _ refl c.get.ensures.lookup
+    ∙ ap (λ (k : ℕ). begins_with c.args.c (drop k c.args.text.now)) (omega arith)
