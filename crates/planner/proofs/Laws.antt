@@ -76,6 +76,16 @@ module _ (t : List ℕ) (stop : ℕ) (s : List ℕ) where
   unfolding checked_of check_answer check_for
   check_refused e {r} q = check_returned t stop s r (same-refusal q ∙ sym (ap (λ x. checked_of (check_for s x)) (read-refused t stop e)))
 
+  -- part by part,
+  pub check_stops : {refusal : Refusal} → job_read_up_to t stop ≡ Err refusal → checked_of (check_answer t stop s) ≡ Err refusal
+  check_stops e = sym (check_refused e refl).0
+
+  pub exact_stops : {refusal : Refusal} → job_read_up_to t stop ≡ Err refusal → Exact t stop s (Err refusal)
+  exact_stops e = (check_refused e refl).1
+
+  pub unbeaten_stops : {refusal : Refusal} → job_read_up_to t stop ≡ Err refusal → Unbeaten t stop (Err refusal)
+  unbeaten_stops e = (check_refused e refl).2
+
   -- and where neither is.
   pub check_is : {c : Stored} → job_read_up_to t stop ≡ Ok c → checked_of (pass_of (job_of c) (schedule_read (job_of c) s)) ≡ checked_of (check_answer t stop s)
   unfolding check_answer check_for

@@ -40,7 +40,7 @@ promised_given t stop a b p e =
       λ j q. (let m = planned-counts t stop j a b p q e in rw (m.0, m.1) (sparing_bound t stop j q)),
     )
 
-promised : (t : List ℕ) (stop a b : ℕ) → Promised t stop (plan_answer t stop a b)
+pub promised : (t : List ℕ) (stop a b : ℕ) → Promised t stop (plan_answer t stop a b)
 unfolding Promised
 promised t stop a b = go (plan_answer t stop a b) refl
   where
@@ -49,7 +49,7 @@ promised t stop a b = go (plan_answer t stop a b) refl
     go (refused n) e = tt
 
 -- They hold of what planning gives with a page.
-page_promised : (t : List ℕ) (stop a b c : ℕ) → Promised t stop (plan_given (page_answer t stop a b c))
+pub page_promised : (t : List ℕ) (stop a b c : ℕ) → Promised t stop (plan_given (page_answer t stop a b c))
 unfolding Promised plan_given
 page_promised t stop a b c = go (page_answer t stop a b c) refl
   where
@@ -77,6 +77,16 @@ module _ (t : List ℕ) (stop : ℕ) (short sparing : List ℕ) where
   plan-refused {refusal} e {r} q =
       gives_ticket (refused (number refusal)) (read-refused t stop e) (gives_refused _ short sparing r (number refusal) refl (same-refusal q))
 
+  -- part by part,
+  pub plan_stops : {refusal : Refusal} → job_read_up_to t stop ≡ Err refusal → planned_as (returned (plan_answer t stop (length short) (length sparing))) ≡ Err refusal
+  plan_stops e = sym (plan-refused e refl).0
+
+  pub short_stops : {refusal : Refusal} → job_read_up_to t stop ≡ Err refusal → short_after (plan_answer t stop (length short) (length sparing)) short ≡ short
+  short_stops e = sym (plan-refused e refl).1
+
+  pub sparing_stops : {refusal : Refusal} → job_read_up_to t stop ≡ Err refusal → sparing_after (plan_answer t stop (length short) (length sparing)) sparing ≡ sparing
+  sparing_stops e = sym (plan-refused e refl).2
+
   pub plan-given : {c : Stored} → job_read_up_to t stop ≡ Ok c → {r : Result Planned Refusal} {short' sparing' : List ℕ}
       → Gives (planned_for (length short) (length sparing) (given (job_of c))) short sparing r short' sparing' → PlansFor r short' sparing'
   plan-given e g = gives_ticket _ (read-given t stop e) g
@@ -100,6 +110,22 @@ module _ (t : List ℕ) (stop : ℕ) (short sparing : List ℕ) where
     unfolding page_for
     page-refused {refusal} e {r} q =
         gives_page_ticket (refused (number refusal)) (read-refused t stop e) (gives_page-refused _ short sparing page r (number refusal) refl (same-refusal q))
+
+    abbrev answer : Answer PageGiven
+    answer = page_answer t stop (length short) (length sparing) (length page)
+
+    -- part by part,
+    pub page_stops : {refusal : Refusal} → job_read_up_to t stop ≡ Err refusal → planned_page_as answer ≡ Err refusal
+    page_stops e = sym (page-refused e refl).0
+
+    pub page_short_stops : {refusal : Refusal} → job_read_up_to t stop ≡ Err refusal → short_after (plan_given answer) short ≡ short
+    page_short_stops e = sym (page-refused e refl).1
+
+    pub page_sparing_stops : {refusal : Refusal} → job_read_up_to t stop ≡ Err refusal → sparing_after (plan_given answer) sparing ≡ sparing
+    page_sparing_stops e = sym (page-refused e refl).2
+
+    pub page_page_stops : {refusal : Refusal} → job_read_up_to t stop ≡ Err refusal → page_after answer page ≡ page
+    page_page_stops e = sym (page-refused e refl).3
 
     pub page-given : {c : Stored} → job_read_up_to t stop ≡ Ok c → {r : Result PlannedPage Refusal} {short' sparing' page' : List ℕ}
         → GivesPage (page_for (length short) (length sparing) (length page) (given (job_of c))) short sparing page r short' sparing' page'

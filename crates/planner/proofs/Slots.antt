@@ -27,7 +27,7 @@ use Rattle.returning.specs.declared.LeastSlots.{LeastSlots}
 use Rattle.planner.specs.Planner.{LeastGiven}
 
 -- The promise holds of what the call gives.
-least_promised : (t : List ℕ) (stop d wanted room : ℕ) → LeastGiven t stop d wanted (slots_answer t stop d wanted room)
+pub least_promised : (t : List ℕ) (stop d wanted room : ℕ) → LeastGiven t stop d wanted (slots_answer t stop d wanted room)
 unfolding LeastGiven
 least_promised t stop d wanted room = go (slots_answer t stop d wanted room) refl
   where
@@ -59,6 +59,13 @@ module _ (t : List ℕ) (stop d wanted : ℕ) (lent : List ℕ) where
   pub slots_ticket : {refusal : Refusal} → job_read_up_to t stop ≡ Err refusal → {r : Result (Option LeastSlots) Refusal} → r ≡ Err refusal → Given r lent
   unfolding slots_answer slots_for
   slots_ticket {refusal} e q = stops (number refusal) (ap (slots_for d wanted (length lent)) (read-refused t stop e)) (same-refusal q)
+
+  -- part by part,
+  pub slots_stops : {refusal : Refusal} → job_read_up_to t stop ≡ Err refusal → least_as (returned_slots (slots_answer t stop d wanted (length lent))) ≡ Err refusal
+  slots_stops e = sym (slots_ticket e refl).0
+
+  pub lent_stops : {refusal : Refusal} → job_read_up_to t stop ≡ Err refusal → slots_after (slots_answer t stop d wanted (length lent)) lent ≡ lent
+  lent_stops e = sym (slots_ticket e refl).1
 
   module _ {c : Stored} (e : job_read_up_to t stop ≡ Ok c) where
     slots_is : slots_answer t stop d wanted (length lent) ≡ slots_for d wanted (length lent) (given (job_of c))

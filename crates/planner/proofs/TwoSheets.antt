@@ -31,7 +31,7 @@ other_passes t stop first second a b is_first p q = q
 other_passes t stop first second a b is_second p q = p
 
 module _ (t : List ℕ) (stop : ℕ) (first second : List ℕ) where
-  preferred : Preferred t stop first second (choose_answer t stop first second)
+  pub preferred : Preferred t stop first second (choose_answer t stop first second)
   unfolding Preferred
   preferred = go (choose_answer t stop first second) refl
     where
@@ -58,6 +58,9 @@ module _ (t : List ℕ) (stop : ℕ) (first second : List ℕ) where
   unfolding check_answer check_for
   ticket_stops {refusal} e q =
       stops (number refusal) (first-refused t stop first second _ (ap (check_for first) (read-refused t stop e))) (same-refusal q)
+
+  pub choose_stops : {refusal : Refusal} → job_read_up_to t stop ≡ Err refusal → chosen_as (returned_choice (choose_answer t stop first second)) ≡ Err refusal
+  choose_stops e = sym (ticket_stops e refl).0
 
   -- where the check of the first sheet is,
   pub first_stops : {refusal : Refusal} → checked_of (check_answer t stop first) ≡ Err refusal → {r : Result Chosen Refusal} → r ≡ Err refusal → Chooses r

@@ -18,6 +18,7 @@ use returning::{Chosen, LeastSlots, Planned, PlannedPage};
 
 // Planning: a ticket, a stop, and the lent buffers for the short and the sparing sheet. What it returns, both buffers afterwards, and what is
 // promised.
+#[tactic(auto, using(crate::proofs::Promised::plan_stops, crate::proofs::Promised::short_stops, crate::proofs::Promised::sparing_stops, crate::proofs::Promised::promised))]
 pub fn plan(
     ticket: &[u8],
     stop: usize,
@@ -36,7 +37,7 @@ pub fn plan(
 
 // "The part of one of the two lent buffers that holds the chosen sheet": of the buffers of a planning call and what that call gave. After a refusal
 // it is empty; of other buffers it is as many bytes as there are, at most the part's length.
-#[tactic(auto, using(returning::proofs::TwoSheets::two_marked), unfolding(model::specs::Calls::part_of))]
+#[tactic(auto, using(returning::proofs::TwoSheets::part_chosen, returning::proofs::TwoSheets::two_marked))]
 pub fn part<'a>(short: &'a [u8], sparing: &'a [u8], planned: Result<Planned, Refusal>) -> &'a [u8]
     ensures bytes { result.now ≡ part_given planned short.now sparing.now }
     ensures buffer { result.ref_ptr ≡ part_begins planned short.entry.ref_ptr sparing.entry.ref_ptr }
@@ -44,7 +45,7 @@ pub fn part<'a>(short: &'a [u8], sparing: &'a [u8], planned: Result<Planned, Ref
     match planned {
         Ok(p) => {
             let which = returning::which_for(p.short.rounds, p.sparing.rounds);
-            returning::handed_slice(which, p.length, short, sparing)
+            returning::handed_slice(Some(which), p.length, short, sparing)
         }
         Err(_) => &sparing[..0],
     }
@@ -52,6 +53,7 @@ pub fn part<'a>(short: &'a [u8], sparing: &'a [u8], planned: Result<Planned, Ref
 
 // Planning with a page (L2): a ticket, a stop, and the lent buffers for the short and the sparing sheet and for the page of the plan handed back.
 // What it returns, the three buffers afterwards, and what is promised of planning.
+#[tactic(auto, using(crate::proofs::Promised::page_stops, crate::proofs::Promised::page_short_stops, crate::proofs::Promised::page_sparing_stops, crate::proofs::Promised::page_page_stops, crate::proofs::Promised::page_promised))]
 pub fn plan_with_page(
     ticket: &[u8],
     stop: usize,
@@ -71,6 +73,7 @@ pub fn plan_with_page(
 }
 
 // The check: a ticket, a stop and a sheet. What it returns, and what is promised.
+#[tactic(auto, using(crate::proofs::Laws::check_stops, crate::proofs::Laws::exact_stops, crate::proofs::Laws::unbeaten_stops))]
 pub fn check(ticket: &[u8], stop: usize, sheet: &[u8]) -> Result<Counts, Refusal>
     ensures { let a = check_answer ticket.now stop sheet.now in
         (result ≡ checked_of a)
@@ -83,6 +86,7 @@ pub fn check(ticket: &[u8], stop: usize, sheet: &[u8]) -> Result<Counts, Refusal
 
 // The choice between two sheets for a ticket and a stop, whoever drew them up: "both are checked, the first before the second, and a failure gives
 // the check's number". What it returns, and what is promised. `chosen_sheet` hands back the sheet.
+#[tactic(auto, using(crate::proofs::TwoSheets::choose_stops, crate::proofs::TwoSheets::preferred))]
 pub fn choose(ticket: &[u8], stop: usize, first: &[u8], second: &[u8]) -> Result<Chosen, Refusal>
     ensures { let a = choose_answer ticket.now stop first.now second.now in
         (result ≡ chosen_as (returned_choice a))
@@ -96,7 +100,7 @@ pub fn choose(ticket: &[u8], stop: usize, first: &[u8], second: &[u8]) -> Result
 
 // The sheet that a choice hands back: of the two sheets and what the choice gave. After a refusal it is empty; of other slices it is as many bytes as
 // there are, at most the sheet's length.
-#[tactic(auto, using(returning::proofs::TwoSheets::given_two), unfolding(model::specs::Calls::sheet_handed))]
+#[tactic(auto, unfolding(model::specs::Calls::sheet_handed))]
 pub fn chosen_sheet<'a>(
     first: &'a [u8],
     second: &'a [u8],
@@ -106,13 +110,14 @@ pub fn chosen_sheet<'a>(
     ensures buffer { result.ref_ptr ≡ sheet_begins chosen first.entry.ref_ptr second.entry.ref_ptr }
 {
     match chosen {
-        Ok(c) => returning::handed_slice(c.which, c.length, first, second),
-        Err(_) => &first[..0],
+        Ok(c) => returning::handed_slice(Some(c.which), c.length, first, second),
+        Err(_) => returning::handed_slice(None, 0, first, second),
     }
 }
 
 // How many slots a disk needs (L10): a ticket, a stop, the disk, the wanted rounds, any number, and a lent buffer for the short sheet. What it
 // returns, the buffer afterwards, and what is promised. `slots_part` hands out the sheet.
+#[tactic(auto, using(crate::proofs::Slots::slots_stops, crate::proofs::Slots::lent_stops, crate::proofs::Slots::least_promised))]
 pub fn least_slots(
     ticket: &[u8],
     stop: usize,

@@ -1,9 +1,12 @@
 -- The mark, and what belongs to a sheet, by which sheet is handed back. Assumes nothing.
-use mathlib.Core.Path.{◌≡◌, refl, sym, ◌∙◌}
+use mathlib.Core.Path.{◌≡◌, refl, sym, ap, ◌∙◌}
+use mathlib.Core.List.{List}
 use Prim.Native.Nat.{ℕ}
-use Rattle.model.specs.Calls.{Which, is_first, is_second, of_two, which_for, is_short, is_sparing, mark_for, chosen}
+use lib.ListN.{take}
+use Rattle.std.specs.Prelude.{Some}
+use Rattle.model.specs.Calls.{Which, is_first, is_second, of_two, which_for, is_short, is_sparing, mark_for, chosen, part_of, sheet_handed}
 use Rattle.model.proofs.Bytes.{chosen_two}
-use Rattle.returning.specs.Returning.{mark_as, which_as, which_given, mark_of, of_which}
+use Rattle.returning.specs.Returning.{mark_as, which_as, which_given, handed_given, mark_of, of_which}
 use Rattle.returning.specs.declared.Which.{Which as WhichOf}
 use Rattle.returning.specs.declared.Which.TheVariants.{First, Second}
 
@@ -26,3 +29,7 @@ given_two Second x y = refl
 pub two_marked : {A : Type 0} (a b : ℕ) (x y : A) → of_which (which_as (which_for a b)) x y ≡ chosen (mark_for a b) x y
 unfolding mark_for
 two_marked a b x y = two_chosen (which_for a b) x y ∙ sym (chosen_two (which_for a b) x y)
+
+pub part_chosen : (n a b : ℕ) (x y : List ℕ) → sheet_handed (handed_given (Some (which_as (which_for a b)))) n x y ≡ part_of n a b x y
+unfolding sheet_handed part_of
+part_chosen n a b x y = ap (take n) (sym (given_two (which_as (which_for a b)) x y) ∙ two_marked a b x y)

@@ -40,6 +40,16 @@ abbrev pub of_which : {A : Type 0} → Which → A → A → A
 of_which First ofFirst ofSecond = ofFirst
 of_which Second ofFirst ofSecond = ofSecond
 
+-- one of them, or neither
+abbrev pub handed_given : Option Which → OptionGiven WhichGiven
+handed_given None = none
+handed_given (Some which) = some (which_given which)
+
+-- where that sheet begins; the empty slice of neither begins where the first does
+abbrev pub which_begins : {A : Type 0} → Option Which → A → A → A
+which_begins None first second = first
+which_begins (Some which) first second = of_which which first second
+
 -- planning's first sheet is the short one, its second the sparing one
 abbrev pub mark_of : Which → Mark
 mark_of which = of_which which Short Sparing

@@ -3,8 +3,8 @@
 #![tactic(auto)]
 
 ghost use Rattle.std.specs.Prelude.{◌≡◌, take};
-ghost use Rattle.model.specs.Calls.{which_for};
-ghost use Rattle.returning.specs.Returning.{which_as, mark_of, of_which, preference_of, fits};
+ghost use Rattle.model.specs.Calls.{which_for, sheet_handed};
+ghost use Rattle.returning.specs.Returning.{which_as, handed_given, which_begins, mark_of, of_which, preference_of, fits};
 
 use playing::Counts;
 use refusal::Refusal;
@@ -108,12 +108,21 @@ pub fn front<'a>(lent: &'a [u8], n: usize) -> &'a [u8]
     &lent[..n.min(lent.len())]
 }
 
-// The chosen one of two slices: its first n bytes, or all that it has.
-pub fn handed_slice<'a>(which: Which, n: usize, first: &'a [u8], second: &'a [u8]) -> &'a [u8]
-    ensures bytes { result.now ≡ take n (of_which which first.now second.now) }
-    ensures buffer { result.ref_ptr ≡ of_which which first.entry.ref_ptr second.entry.ref_ptr }
+// The chosen one of two slices: its first n bytes, or all that it has; of neither no byte.
+#[tactic(auto, using(crate::proofs::TwoSheets::given_two), unfolding(model::specs::Calls::sheet_handed))]
+pub fn handed_slice<'a>(
+    which: Option<Which>,
+    n: usize,
+    first: &'a [u8],
+    second: &'a [u8],
+) -> &'a [u8]
+    ensures bytes { result.now ≡ sheet_handed (handed_given which) n first.now second.now }
+    ensures buffer { result.ref_ptr ≡ which_begins which first.entry.ref_ptr second.entry.ref_ptr }
 {
-    front(which.of(first, second), n)
+    match which {
+        Some(which) => front(which.of(first, second), n),
+        None => front(first, 0),
+    }
 }
 
 // n bytes for a buffer of so many: where they do not fit, the refusal that says so.
