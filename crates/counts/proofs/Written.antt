@@ -21,7 +21,7 @@ use Rattle.returning.specs.Returning.{mark_as, counts_as, which_as, planned_as, 
 use Rattle.returning.specs.declared.Planned.{Planned}
 use Rattle.returning.specs.declared.Chosen.{Chosen}
 use Rattle.returning.proofs.TwoSheets.{two_chosen}
-use Rattle.counts.specs.Counts.{number_in, mark_number, checked_numbers, planned_numbers, chosen_numbers, counts_laid}
+use Rattle.counts.specs.Counts.{numbered, number_in, mark_number, checked_numbers, planned_numbers, chosen_numbers, counts_laid}
 use Rattle.refusal.proofs.Numbers.{number-refusal_of}
 
 -- What is returned for an answer: what is given, by value, or the refusal of its number.
@@ -31,16 +31,20 @@ by_value f (refused n) = Err (refusal_of n)
 
 -- What is laid for a value returned is what is written for an answer, and so is the number.
 abbrev pub Writes : {A B : Type 0} → (A → List ℕ) → (B → List ℕ) → Answer A → Result B Refusal → Type 0
-Writes numbers laid a r = (n : ℕ) (lent lent' : List ℕ) → n ≡ number_in r → lent' ≡ counts_laid laid r lent → (n ≡ number_of a) × (lent' ≡ counts_written numbers a lent)
+Writes {A} {B} numbers laid a r = (s : Result B ℕ) → s ≡ numbered r → (n : ℕ) (lent lent' : List ℕ) → n ≡ number_in s → lent' ≡ counts_laid laid s lent
+    → (n ≡ number_of a) × (lent' ≡ counts_written numbers a lent)
 
 -- It is for an answer whose refusals have small numbers, none of them 0.
 module _ {A B : Type 0} (f : A → B) (a : Answer A) (few : (n : ℕ) → a ≡ refused n → (1 ≤ n) × (n ≤ 26)) (numbers : A → List ℕ) (laid : B → List ℕ)
     (same : (v : A) → a ≡ given v → laid (f v) ≡ numbers v) where
   wrote : (r : Result B Refusal) → r ≡ by_value f a → Writes numbers laid a r
   unfolding counts_written
-  wrote r e n lent lent' h w = let g = go a refl in (h ∙ ap number_in e ∙ g.0, w ∙ ap (λ (x : Result B Refusal). counts_laid laid x lent) e ∙ g.1)
+  wrote r e s t n lent lent' h w =
+      let g = go a refl in
+      let u = t ∙ ap (λ (x : Result B Refusal). numbered x) e in (h ∙ ap number_in u ∙ g.0, w ∙ ap (λ (x : Result B ℕ). counts_laid laid x lent) u ∙ g.1)
     where
-      go : (x : Answer A) → a ≡ x → (number_in (by_value f x) ≡ number_of x) × (counts_laid laid (by_value f x) lent ≡ counts_written numbers x lent)
+      go : (x : Answer A) → a ≡ x → (number_in (numbered (by_value f x)) ≡ number_of x)
+          × (counts_laid laid (numbered (by_value f x)) lent ≡ counts_written numbers x lent)
       go (given v) q = (refl, ap (λ (l : List ℕ). counts_written (λ (x : A). l) (given v) lent) (same v q))
       go (refused n) q = let b = few n q in (number-refusal_of n b.0 (omega (arith, b)), refl)
 

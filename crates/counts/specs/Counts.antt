@@ -12,10 +12,15 @@ use Rattle.returning.specs.declared.Mark.TheVariants.{Short, Sparing}
 use Rattle.returning.specs.declared.Planned.{Planned}
 use Rattle.returning.specs.declared.Chosen.{Chosen}
 
+-- What a call returns, with the number of its refusal for C.
+abbrev pub numbered : {A : Type 0} → Result A Refusal → Result A ℕ
+numbered (Ok x) = Ok x
+numbered (Err refusal) = Err (number refusal)
+
 -- "its number, or 0 if it is not refused"
-abbrev pub number_in : {A : Type 0} → Result A Refusal → ℕ
+abbrev pub number_in : {A : Type 0} → Result A ℕ → ℕ
 number_in (Ok x) = 0
-number_in (Err refusal) = number refusal
+number_in (Err number) = number
 
 -- "the mark (0 short, 1 sparing)"
 abbrev pub mark_number : Mark → ℕ
@@ -35,6 +40,6 @@ abbrev pub chosen_numbers : Chosen → List ℕ
 chosen_numbers c = of_which c.which 0 1 ∷ c.length ∷ []
 
 -- The lent slice after a call, of which these numbers are written where it is not refused: "a refusal writes nothing there".
-abbrev pub counts_laid : {A : Type 0} → (A → List ℕ) → Result A Refusal → List ℕ → List ℕ
+abbrev pub counts_laid : {A : Type 0} → (A → List ℕ) → Result A ℕ → List ℕ → List ℕ
 counts_laid numbers (Ok x) lent = laid (halves (numbers x)) lent
-counts_laid numbers (Err refusal) lent = lent
+counts_laid numbers (Err number) lent = lent

@@ -1,6 +1,6 @@
 // What the calls write for C: the numbers of a check that passes, of a planning call and of a choice, laid into a lent slice, 16 bits each and most
-// significant byte first, as far as that reaches; and the call's number, which is returned. A refusal writes nothing. Document 01, its calls;
-// document 02, L1.
+// significant byte first, as far as that reaches; and the call's number, which is returned. A refusal is given as its number, whatever that is, and
+// writes nothing. Document 01, its calls; document 02, L1.
 #![tactic(auto, using(crate::proofs::Laying::laid_first, crate::proofs::Laying::laid_two, crate::proofs::Laying::laid_twenty))]
 
 ghost use Rattle.std.specs.Prelude.{◌≡◌, ◌*◌, ◌≤◌};
@@ -9,7 +9,6 @@ ghost use Rattle.model.specs.Calls.{halves};
 ghost use Rattle.counts.specs.Counts.{number_in, checked_numbers, planned_numbers, chosen_numbers, counts_laid};
 
 use playing::Counts;
-use refusal::Refusal;
 use returning::{Chosen, Planned};
 
 // Rounds and eight fetch counts, written from the number `from` on.
@@ -24,7 +23,7 @@ fn lay_counts(counts: &mut [u8], from: usize, taken: Counts)
 }
 
 // What a check gave: its number; where it passed, its rounds and eight fetch counts are written.
-pub fn lay_checked(counts: &mut [u8], checked: Result<Counts, Refusal>) -> u32
+pub fn lay_checked(counts: &mut [u8], checked: Result<Counts, u32>) -> u32
     ensures { (result ≡ number_in checked) × (counts.new ≡ counts_laid checked_numbers checked counts.old) }
 {
     match checked {
@@ -32,13 +31,13 @@ pub fn lay_checked(counts: &mut [u8], checked: Result<Counts, Refusal>) -> u32
             lay_counts(counts, 0, taken);
             0
         }
-        Err(refusal) => refusal as u32,
+        Err(number) => number,
     }
 }
 
 // What planning gave: its number; where it was not refused, the mark (0 short, 1 sparing), the length of the part, and the rounds and eight fetch
 // counts of the short and of the sparing plan are written.
-pub fn lay_planned(counts: &mut [u8], planned: Result<Planned, Refusal>) -> u32
+pub fn lay_planned(counts: &mut [u8], planned: Result<Planned, u32>) -> u32
     ensures { (result ≡ number_in planned) × (counts.new ≡ counts_laid planned_numbers planned counts.old) }
 {
     match planned {
@@ -49,12 +48,12 @@ pub fn lay_planned(counts: &mut [u8], planned: Result<Planned, Refusal>) -> u32
             lay_counts(counts, 11, p.sparing);
             0
         }
-        Err(refusal) => refusal as u32,
+        Err(number) => number,
     }
 }
 
 // What a choice gave: its number; where it was not refused, which sheet is handed back (0 the first, 1 the second) and its length are written.
-pub fn lay_chosen(counts: &mut [u8], chosen: Result<Chosen, Refusal>) -> u32
+pub fn lay_chosen(counts: &mut [u8], chosen: Result<Chosen, u32>) -> u32
     ensures { (result ≡ number_in chosen) × (counts.new ≡ counts_laid chosen_numbers chosen counts.old) }
 {
     match chosen {
@@ -63,6 +62,6 @@ pub fn lay_chosen(counts: &mut [u8], chosen: Result<Chosen, Refusal>) -> u32
             bits::lay16(counts, 1, c.length);
             0
         }
-        Err(refusal) => refusal as u32,
+        Err(number) => number,
     }
 }

@@ -5,7 +5,20 @@
 ghost use Rattle.std.specs.Prelude.{◌≡◌};
 ghost use Rattle.model.specs.Calls.{short_after, sparing_after, check_answer, choose_answer, counts_written, counts_numbers, planning_numbers, choice_numbers, number_of};
 ghost use Rattle.checking.specs.Checking.{checked_of};
+ghost use Rattle.counts.specs.Counts.{numbered};
 ghost use Rattle.planner.specs.Planner.{plan_into, Unbeaten, Exact, Promised, Preferred};
+
+use refusal::Refusal;
+
+// What a call returns, with the number of its refusal for C.
+fn numbered<T: Copy>(returned: Result<T, Refusal>) -> Result<T, u32>
+    ensures { result ≡ numbered returned }
+{
+    match returned {
+        Ok(value) => Ok(value),
+        Err(refusal) => Err(refusal as u32),
+    }
+}
 
 // The check, from C: its number, and its rounds and eight fetch counts in `counts`, as far as that reaches.
 #[unsafe(no_mangle)]
@@ -16,7 +29,7 @@ pub extern "C" fn planner_check(ticket: &[u8], stop: usize, sheet: &[u8], counts
         × Exact ticket.now stop sheet.now (checked_of a)
         × Unbeaten ticket.now stop (checked_of a) }
 {
-    counts::lay_checked(counts, planner::check(ticket, stop, sheet))
+    counts::lay_checked(counts, numbered(planner::check(ticket, stop, sheet)))
 }
 
 // Planning, from C: its number; in `counts`, as far as that reaches, the mark (0 short, 1 sparing), the length of the part, and the rounds and eight
@@ -36,7 +49,7 @@ pub extern "C" fn planner_plan(
         × (counts.new ≡ counts_written planning_numbers a counts.old)
         × Promised ticket.now stop a }
 {
-    counts::lay_planned(counts, planner::plan(ticket, stop, short, sparing))
+    counts::lay_planned(counts, numbered(planner::plan(ticket, stop, short, sparing)))
 }
 
 // The choice, from C: its number; in `counts`, as far as that reaches, which sheet is handed back (0 the first, 1 the second) and its length.
@@ -53,5 +66,5 @@ pub extern "C" fn planner_choose(
         × (counts.new ≡ counts_written choice_numbers a counts.old)
         × Preferred ticket.now stop first.now second.now a }
 {
-    counts::lay_chosen(counts, planner::choose(ticket, stop, first, second))
+    counts::lay_chosen(counts, numbered(planner::choose(ticket, stop, first, second)))
 }

@@ -18,6 +18,6 @@ returns c =
     let a = c.args in
     let k = c.check.ensures in
     let l = c.lay_checked.ensures in
-    let u = check_wrote a.ticket.now a.stop a.sheet.now _ (k.0 ∙ checked_is _) _ _ _ l.0 l.1 in
+    let u = check_wrote a.ticket.now a.stop a.sheet.now _ (k.0 ∙ checked_is _) _ c.numbered.ensures _ _ _ l.0 l.1 in
     let p = check_promised a.ticket.now a.stop a.sheet.now in
     (u.0, u.1, p.0, p.1)

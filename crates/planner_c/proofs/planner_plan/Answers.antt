@@ -6,5 +6,5 @@ pub returns : goal.returns
 returns c =
     let k = c.plan.ensures in
     let l = c.lay_planned.ensures in
-    let u = plan_wrote _ _ _ _ _ k.0 _ _ _ l.0 l.1 in
+    let u = plan_wrote _ _ _ _ _ k.0 _ c.numbered.ensures _ _ _ l.0 l.1 in
     (u.0, k.1, k.2, u.1, k.3)
