@@ -4,7 +4,7 @@
 // the same lines, each call followed by ` = ` and what it gives, in the vectors' form.
 #![tactic(auto)]
 
-ghost use Rattle.std.specs.Prelude.{◌≡◌, ◌<◌, IfSome, length};
+ghost use Rattle.std.specs.Prelude.{◌≡◌, ◌<◌, ◌≤◌, IfOk, IfSome, length};
 
 use playing::Counts;
 use refusal::Refusal;
@@ -58,7 +58,9 @@ fn digit(b: u8) -> Option<u8>
 }
 
 // Reads a word of hexadecimal digits, or `-`, and the byte that ends it; the bytes that it put at the start of `out`.
-fn read_bytes<'a>(rt: &HostRuntime, out: &'a mut [u8]) -> io::Result<&'a [u8]> {
+fn read_bytes<'a>(rt: &HostRuntime, out: &'a mut [u8]) -> io::Result<&'a [u8]>
+    ensures { IfOk result (λ s. length s.now ≤ length out.old) }
+{
     for (n, byte) in out.iter_mut().enumerate() {
         let first = next(rt)?;
         let Some(high) = first.and_then(digit) else {
