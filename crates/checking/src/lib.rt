@@ -34,9 +34,9 @@ fn ending(sheet: &[u8], at: usize, left: bool, counts: Counts) -> Result<Counts,
 // The rounds of a sheet, played from the blocks carried in, of which as much is read as they allow. In each round every disk does its action, and
 // then references are consumed in order: the reading stops at the first missing block or at the end. A round is charged where references remain when
 // its reading starts.
-fn play(job: Job, sheet: &[u8], rounds: usize) -> Result<Counts, Refusal>
-    requires { Fits job × (rounds ≤ 2048) }
-    ensures { result ≡ checked_of (played (job_of job) rounds sheet.now) }
+fn play(job: &Job, sheet: &[u8], rounds: usize) -> Result<Counts, Refusal>
+    requires { Fits job.now × (rounds ≤ 2048) }
+    ensures { result ≡ checked_of (played (job_of job.now) rounds sheet.now) }
 {
     let mut b = Buffers::carrying(job.disks, job.held, &job.carried).read_on(&job.refs, job.count);
     let mut counts = Counts {
@@ -78,9 +78,9 @@ fn play(job: Job, sheet: &[u8], rounds: usize) -> Result<Counts, Refusal>
 }
 
 // The check of a sheet for a job.
-pub fn check(job: Job, sheet: &[u8]) -> Result<Counts, Refusal>
-    requires { Fits job }
-    ensures { result ≡ checked_of (pass_of (job_of job) (schedule_read (job_of job) sheet.now)) }
+pub fn check(job: &Job, sheet: &[u8]) -> Result<Counts, Refusal>
+    requires { Fits job.now }
+    ensures { result ≡ checked_of (pass_of (job_of job.now) (schedule_read (job_of job.now) sheet.now)) }
 {
     let rounds = bits::read::field(sheet, 0, 12).ok_or(Refusal::SheetEnds)?;
     if 2048 < rounds {

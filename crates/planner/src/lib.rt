@@ -80,7 +80,7 @@ pub fn check(ticket: &[u8], stop: usize, sheet: &[u8]) -> Result<Counts, Refusal
         × Exact ticket.now stop sheet.now result
         × Unbeaten ticket.now stop result }
 {
-    let job = ticket::read_up_to(ticket, stop)?;
+    let job = &ticket::read_up_to(ticket, stop)?;
     checking::check(job, sheet)
 }
 
@@ -92,7 +92,7 @@ pub fn choose(ticket: &[u8], stop: usize, first: &[u8], second: &[u8]) -> Result
         (result ≡ chosen_as (returned_choice a))
         × Preferred ticket.now stop first.now second.now a }
 {
-    let job = ticket::read_up_to(ticket, stop)?;
+    let job = &ticket::read_up_to(ticket, stop)?;
     let a = checking::check(job, first)?;
     let b = checking::check(job, second)?;
     Ok(returning::preference(a.rounds, first.len(), b.rounds, second.len()))

@@ -117,9 +117,9 @@ fn fill(t: &[u8], job: &mut Job) -> Result<(), Refusal>
 pub fn read(t: &[u8]) -> Result<Job, Refusal>
     ensures { result ≡ ticket_read t.now }
 {
-    let mut ticket = EMPTY;
-    fill(t, &mut ticket)?;
-    Ok(ticket)
+    let mut whole = EMPTY;
+    fill(t, &mut whole)?;
+    Ok(whole)
 }
 
 // The job up to a stop, which is the ticket's with the stop as its count: "21, the stop is above N, tested after 8". It reads the ticket itself, as

@@ -9,10 +9,10 @@ use Rattle.checking.proofs.play.Goals as goal
 use Rattle.checking.proofs.play.Goals.{in-Idle, in-Fetch, in-Replace}
 
 pub read_on-b-requires : goal.read_on-b-requires
-read_on-b-requires c = reading_asks c.args.job c.requires.0 _ (omega arith)
+read_on-b-requires c = reading_asks c.args.job.now c.requires.0 _ (omega arith)
 
 pub rounds-init : goal.rounds-init
-rounds-init c = step.round_same (started c.args.job c.requires.0 c.carrying.ensures c.read_on-b.ensures) (step.round-first c.requires.0)
+rounds-init c = step.round_same (started c.args.job.now c.requires.0 c.carrying.ensures c.read_on-b.ensures) (step.round-first c.requires.0)
 
 pub loop-d-init : goal.loop-d-init
 loop-d-init c = step.disk_first c.requires.0 c.rounds.invariant c.rounds-test.true
