@@ -179,4 +179,5 @@ module _ (t lent line₀ left₀ line left : List ℕ) where
         → let a = note_answer t (length lent) in (Ok count ≡ passes_as a) × (l ≡ refs_after a lent) × Exact t lent l (Ok count)
     unfolding NoteRead
     note_given last count same few fits long =
-        call_given t lent line count few long (rw same (whole-answer t (length lent) line₀ left₀ line left p h.0 h.1 h.2 last (omega arith) (omega arith)))
+        call_given t lent line count few long
+        (rw same (whole-answer t (length lent) line₀ left₀ line left p h.0 h.1 h.2 last (omega arith) (omega arith)))

@@ -25,7 +25,8 @@ read_item-counted-requires t c =
     let part : PartRead c.args.text.now c.args.from c.args.line.now c.args.left.now c.if-is_at.line c.if-is_at.left c.if-is_at.part =
     elim c.if-is_at.branch [
       | read_item-then-is_at+else-from-eq0 w ↦ rw (w.line-is, w.left-is, w.part-is, w.closed-part.ensures)
-          (inside-read c.args.text.now c.args.from (sym w.if-is_at.ensures) (some_number _ w.if-from-eq0.false) c.args.line.now c.args.left.now _ _ _ w.read_note-inner.ensures)
+          (inside-read c.args.text.now c.args.from (sym w.if-is_at.ensures) (some_number _ w.if-from-eq0.false) c.args.line.now c.args.left.now
+          _ _ _ w.read_note-inner.ensures)
       | read_item-else-is_at w ↦ rw (w.line-is, w.left-is, w.part-is, w.read_block-part.ensures.piece, w.read_block-part.ensures.laid)
           (block_read c.args.text.now c.args.from c.args.line.now c.args.left.now c.requires.line_long (sym w.if-is_at.ensures))
     ] in
@@ -36,7 +37,8 @@ read_item-returns t c =
     let part : PartRead c.args.text.now c.args.from c.args.line.now c.args.left.now c.if-is_at.line c.if-is_at.left c.if-is_at.part =
     elim c.if-is_at.branch [
       | read_item-then-is_at+else-from-eq0 w ↦ rw (w.line-is, w.left-is, w.part-is, w.closed-part.ensures)
-          (inside-read c.args.text.now c.args.from (sym w.if-is_at.ensures) (some_number _ w.if-from-eq0.false) c.args.line.now c.args.left.now _ _ _ w.read_note-inner.ensures)
+          (inside-read c.args.text.now c.args.from (sym w.if-is_at.ensures) (some_number _ w.if-from-eq0.false) c.args.line.now c.args.left.now
+          _ _ _ w.read_note-inner.ensures)
       | read_item-else-is_at w ↦ rw (w.line-is, w.left-is, w.part-is, w.read_block-part.ensures.piece, w.read_block-part.ensures.laid)
           (block_read c.args.text.now c.args.from c.args.line.now c.args.left.now c.requires.line_long (sym w.if-is_at.ensures))
     ] in

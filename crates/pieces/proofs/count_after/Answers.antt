@@ -22,7 +22,8 @@ number_from-n-requires-clause-first_le_most c = omega (arith, digit-few _ (sym c
 
 pub returns-in-Some : goal.returns-in-Some
 returns-in-Some c =
-    ap (λ n. Ok (count_of n)) c.number_from-n.ensures ∙ sym (count-number _ _ (sym c.if-not-is_at.ensures) _ (sym c.in-Some.ensures) (omega (arith, c.if-first-gt0.true)))
+    ap (λ n. Ok (count_of n)) c.number_from-n.ensures
+    ∙ sym (count-number _ _ (sym c.if-not-is_at.ensures) _ (sym c.in-Some.ensures) (omega (arith, c.if-first-gt0.true)))
 
 pub overflow_add-at-in_default : goal.overflow_add-at-in_default
 overflow_add-at-in_default c = omega (arith, begins_within _ c.args.text.now c.args.at c.is_at.ensures c.if-not-is_at.false)
@@ -30,6 +31,7 @@ overflow_add-at-in_default c = omega (arith, begins_within _ c.args.text.now c.a
 pub returns-in_default : goal.returns-in_default
 returns-in_default c =
     rw c.malformed.ensures (elim c.in_default.branch [
-      | in_default-via-in-Some+else-first-gt0 w ↦ sym (count_zero _ _ (sym c.if-not-is_at.ensures) _ (sym w.in-Some.ensures) (omega (arith, w.if-first-gt0.false)))
+      | in_default-via-in-Some+else-first-gt0 w ↦
+          sym (count_zero _ _ (sym c.if-not-is_at.ensures) _ (sym w.in-Some.ensures) (omega (arith, w.if-first-gt0.false)))
       | in_default-via-in_default w ↦ sym (count_off _ _ (sym c.if-not-is_at.ensures) (sym w.in_default.ensures))
     ])

@@ -1,5 +1,5 @@
 -- `lay_reasons` meets its contract: a reason is laid within the slice, and past its end there is nothing to lay. Assumes nothing.
-use Rattle.std.proofs.Common.{◌+◌, sym, ◌∙◌}
+use Rattle.std.proofs.Common.{rules, ◌+◌, sym, ◌∙◌}
 use Rattle.std.specs.Prelude.{None}
 use lib.Seq.{set_out}
 use Rattle.bits.proofs.Fields.{laid_at_nil}
@@ -18,6 +18,6 @@ loop-d-preserved c =
     let none : Action = record { fetched = None; discarded = None; reason = 0 } in
     rw (laid_disk a.reasons.now a.start a.acts.now l.d none c.loop-d-test.true, ← l.invariant)
     (elim c.if-start-d.branch [
-      | then-start-d w ↦ w.reasons-is
+      | then-start-d w ↦ search rules
       | else-start-d w ↦ w.reasons-is ∙ sym (set_out l.reasons (a.start + l.d) _ w.if-start-d.false)
     ])
