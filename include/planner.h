@@ -42,7 +42,7 @@
  *   - Each slice is a pointer and a length in bytes, a ticket of planner_references too. A pointer may be null only with the length 0.
  *   - Slices that a call writes must not overlap each other or any other slice of the call. Slices that it only reads may be the same memory.
  *   - The calls keep nothing, allocate nothing, and may be made from several threads at once. A planning call takes some 119 KB of stack,
- *     a check or a choice some 16 KB, and a first call some 3 KB more in the dynamic linker (measured; docs/LOOK-BACK.md has the
+ *     a check or a choice some 13 KB, and a first call some 3 KB more in the dynamic linker (measured; docs/LOOK-BACK.md has the
  *     figures).
  *   - A call returns 0, or the number of its refusal (enum planner_number). A refused call changes no lent byte.
  */
