@@ -1,6 +1,6 @@
 -- The pieces of a note as the code reads and builds them. The references of a piece that is read are built at the end of a line of 2,048 entries.
 -- More than 2,048 references in all are counted no further, and not built. Assumes nothing.
-use Rattle.std.specs.Prelude.{cond, List, ◌++◌, ℕ, ◌+◌, ◌*◌, take, drop, set, Option, Some, None, Result, Ok, Err}
+use Rattle.std.specs.Prelude.{◌≡◌, cond, List, ◌++◌, ℕ, ◌+◌, ◌*◌, take, drop, set, Option, Some, None, Result, Ok, Err, IsErrAnd}
 use Prim.Native.Char.{code}
 use Rattle.grammar.specs.Note.{repeated}
 use Rattle.mixing.specs.declared.Place.{Place}
@@ -29,19 +29,27 @@ laid_from t from line (Some d) = cond (room_for from 1) (set line from.line (num
 unfoldable pub block_laid : List ℕ → Place → List ℕ → List ℕ
 block_laid t from line = laid_from t from line (first_digit (drop from.at t))
 
--- A note in parentheses, of which the note has been read: a parenthesis closes it. A note that was refused stays refused.
-unfoldable pub closed_at : List ℕ → Result Piece Met → Result Piece Met
-closed_at t (Ok p) = cond (begins_with (code ")") (drop p.at t)) (Ok (record { at = p.at + 1; count = p.count })) (Err (malformed p.at))
-closed_at t (Err m) = Err m
+-- What is given for a piece that was read or refused here, where `gives` says which errors a refusal may become.
+abbrev pub GivenAs : {M : Type 0} → (Met → M → Type 0) → Result Piece Met → Result Piece M → Type 0
+GivenAs gives (Ok p) r = r ≡ Ok p
+GivenAs gives (Err m) r = IsErrAnd r (gives m)
 
--- A part with the count that follows it, and the line with that part repeated. A part that was refused stays refused, and the line stays.
+-- A piece that was read goes on by a step, which reads further or refuses it. A piece that was refused stays refused as it was, whatever its error.
+unfoldable pub Continues : {M : Type 0} → (Met → M → Type 0) → (Piece → Result Piece Met) → Result Piece M → Result Piece M → Type 0
+Continues gives step (Ok p) r = GivenAs gives (step p) r
+Continues gives step (Err e) r = r ≡ Err e
+
+-- A note in parentheses, of which the note has been read: a parenthesis closes it.
+unfoldable pub closed_at : List ℕ → Piece → Result Piece Met
+closed_at t p = cond (begins_with (code ")") (drop p.at t)) (Ok (record { at = p.at + 1; count = p.count })) (Err (malformed p.at))
+
+-- A part with the count that follows it, and the line with that part repeated. The line of a part that was refused stays.
 abbrev pub counted_by : Piece → Result Counted Met → Result Piece Met
 counted_by p (Ok c) = Ok (record { at = c.at; count = capped (p.count * c.times) })
 counted_by p (Err m) = Err m
 
-unfoldable pub counted_at : List ℕ → Result Piece Met → Result Piece Met
-counted_at t (Ok p) = counted_by p (count_at t p.at)
-counted_at t (Err m) = Err m
+unfoldable pub counted_at : List ℕ → Piece → Result Piece Met
+counted_at t p = counted_by p (count_at t p.at)
 
 abbrev pub line_by : Piece → Place → List ℕ → Result Counted Met → List ℕ
 line_by p from line (Ok c) =
@@ -50,6 +58,6 @@ line_by p from line (Ok c) =
     line
 line_by p from line (Err m) = line
 
-unfoldable pub counted_line : List ℕ → Result Piece Met → Place → List ℕ → List ℕ
+unfoldable pub counted_line : {M : Type 0} → List ℕ → Result Piece M → Place → List ℕ → List ℕ
 counted_line t (Ok p) from line = line_by p from line (count_at t p.at)
-counted_line t (Err m) from line = line
+counted_line t (Err e) from line = line

@@ -4,7 +4,7 @@
 
 ghost use Rattle.std.specs.Prelude.{◌≡◌, ◌≤◌, length};
 ghost use Rattle.std.specs.Result.{ForOk};
-ghost use Rattle.building.specs.Building.{block_at, block_laid, closed_at, counted_at, counted_line};
+ghost use Rattle.building.specs.Building.{block_at, block_laid, Continues, closed_at, counted_at, counted_line};
 
 use mixing::Place;
 use pieces::Met;
@@ -34,13 +34,14 @@ pub fn read_block(text: &[u8], from: Place, line: &mut [u16]) -> Result<Piece, M
     Ok(Piece { at: n.at, count: 1 })
 }
 
-// The parenthesis that closes a note; a note that was refused stays refused.
-pub fn closed(text: &[u8], inner: Result<Piece, Met>) -> Result<Piece, Met>
-    ensures { result ≡ closed_at text.now inner }
+// The parenthesis that closes a note; a note that was refused stays refused, whatever its error.
+#[tactic(auto, using(crate::proofs::Laws::refused_stays))]
+pub fn closed<M: Copy + From<Met>>(text: &[u8], inner: Result<Piece, M>) -> Result<Piece, M>
+    ensures { Continues M.from_gives (closed_at text.now) inner result }
 {
     let inner = inner?;
     if !pieces::is_at(text, inner.at, b')') {
-        return Err(pieces::malformed(inner.at));
+        return Err(M::from(pieces::malformed(inner.at)));
     }
     Ok(Piece {
         at: inner.at + 1,
@@ -48,15 +49,16 @@ pub fn closed(text: &[u8], inner: Result<Piece, Met>) -> Result<Piece, Met>
     })
 }
 
-// A part with the count that follows it, repeated at the end of the line; a part that was refused stays refused.
-pub fn counted(
+// A part with the count that follows it, repeated at the end of the line; a part that was refused stays refused, whatever its error.
+#[tactic(auto, using(crate::proofs::Laws::refused_stays, crate::proofs::Laws::line_refused))]
+pub fn counted<M: Copy + From<Met>>(
     text: &[u8],
-    part: Result<Piece, Met>,
+    part: Result<Piece, M>,
     from: Place,
     line: &mut [u16],
-) -> Result<Piece, Met>
+) -> Result<Piece, M>
     requires { (from.line ≤ 2049) × (from.left ≤ 2049) × (length line.old ≡ 2048) × ForOk part (λ p. p.count ≤ 2049) }
-    ensures piece { result ≡ counted_at text.now part }
+    ensures piece { Continues M.from_gives (counted_at text.now) part result }
     ensures repeats { line.new ≡ counted_line text.now part from line.old }
 {
     let part = part?;

@@ -3,7 +3,7 @@ use mathlib.Core.Path.{◌≡◌, refl, sym, ap, ◌∙◌}
 use mathlib.Core.List.{List, ◌∷◌, ◌++◌}
 use Prim.Native.Nat.{ℕ, ◌≤◌}
 use native.Mathlib.Omega.{arith}
-use Rattle.std.specs.Prelude.{Result, Ok, Err}
+use Rattle.std.specs.Prelude.{Option, Some, None, Result, Ok, Err}
 use Rattle.bits.specs.Reading.{Answer, given, refused}
 use Rattle.model.specs.Plans.{each}
 use Rattle.model.specs.Job.{Job}
@@ -34,6 +34,19 @@ abbrev pub Writes : {A B : Type 0} → (A → List ℕ) → (B → List ℕ) →
 Writes {A} {B} numbers laid a r = (s : Result B ℕ) → s ≡ numbered r → (n : ℕ) (lent lent' : List ℕ) → n ≡ number_in s → lent' ≡ counts_laid laid s lent
     → (n ≡ number_of a) × (lent' ≡ counts_written numbers a lent)
 
+-- The numbers of a value, with what is given beside it: that of the value itself.
+abbrev pub beside : {A B : Type 0} → (A → B) → (Option B → A → List ℕ) → A → List ℕ
+beside own numbers x = numbers (Some (own x)) x
+
+abbrev pub own_in : {A B : Type 0} → (A → B) → Result A ℕ → Option B
+own_in own (Ok x) = Some (own x)
+own_in own (Err number) = None
+
+pub laid_beside : {A B : Type 0} (own : A → B) (numbers : Option B → A → List ℕ) (s : Result A ℕ) (b : Option B) → b ≡ own_in own s → (lent : List ℕ)
+    → counts_laid (numbers b) s lent ≡ counts_laid (beside own numbers) s lent
+laid_beside own numbers (Ok x) b e lent = rw e refl
+laid_beside own numbers (Err number) b e lent = refl
+
 -- It is for an answer whose refusals have small numbers, none of them 0.
 module _ {A B : Type 0} (f : A → B) (a : Answer A) (few : (n : ℕ) → a ≡ refused n → (1 ≤ n) × (n ≤ 26)) (numbers : A → List ℕ) (laid : B → List ℕ)
     (same : (v : A) → a ≡ given v → laid (f v) ≡ numbers v) where
@@ -61,14 +74,18 @@ check_wrote t stop s = wrote counts_as (check_answer t stop s) (check_within t s
 
 -- Planning.
 
-mark_same : (m : MarkGiven) → mark_number (mark_as m) ≡ chosen m 0 1
+-- The numbers of a planning call with its own mark.
+abbrev pub marked_numbers : Planned → List ℕ
+marked_numbers = beside (λ p. p.mark) planned_numbers
+
+mark_same : (m : MarkGiven) → mark_number (Some (mark_as m)) ≡ chosen m 0 1
 mark_same is_short = refl
 mark_same is_sparing = refl
 
 abbrev plan_value : PlanGiven → Planned
 plan_value p = record { mark = mark_as p.mark; length = p.part_length; short = counts_as p.short; sparing = counts_as p.sparing }
 
-planned_same : (j : Job) (a b : Schedule) → planned_numbers (plan_value (planned_of j a b)) ≡ planning_numbers (planned_of j a b)
+planned_same : (j : Job) (a b : Schedule) → marked_numbers (plan_value (planned_of j a b)) ≡ planning_numbers (planned_of j a b)
 unfolding planned_of counts_of each
 planned_same j a b = let p = planned_of j a b in ap (λ (m : ℕ). m ∷ p.part_length ∷ (counts_numbers p.short ++ counts_numbers p.sparing)) (mark_same p.mark)
 
@@ -78,8 +95,8 @@ planned_is (given p) = refl
 planned_is (refused n) = refl
 
 pub plan_wrote : (t : List ℕ) (stop a b : ℕ) (r : Result Planned Refusal) → r ≡ planned_as (returned (plan_answer t stop a b))
-    → Writes planning_numbers planned_numbers (plan_answer t stop a b) r
-plan_wrote t stop a b r e = wrote plan_value (plan_answer t stop a b) (plan_within t stop a b) planning_numbers planned_numbers
+    → Writes planning_numbers marked_numbers (plan_answer t stop a b) r
+plan_wrote t stop a b r e = wrote plan_value (plan_answer t stop a b) (plan_within t stop a b) planning_numbers marked_numbers
     (λ p q. (let w = Bytes.planned t stop a b p q in rw (sym w.2) (planned_same _ _ _))) r (e ∙ planned_is (plan_answer t stop a b))
 
 -- The choice.
@@ -87,7 +104,11 @@ plan_wrote t stop a b r e = wrote plan_value (plan_answer t stop a b) (plan_with
 abbrev choice_value : ChosenSheet → Chosen
 choice_value c = record { which = which_as c.which; length = c.sheet_length }
 
-choice_same : (c : ChosenSheet) → chosen_numbers (choice_value c) ≡ choice_numbers c
+-- The numbers of a choice with its own sheet.
+abbrev pub sheet_numbers : Chosen → List ℕ
+sheet_numbers = beside (λ c. c.which) chosen_numbers
+
+choice_same : (c : ChosenSheet) → sheet_numbers (choice_value c) ≡ choice_numbers c
 choice_same c = rw (two_chosen {A = ℕ} c.which 0 1) refl
 
 chosen_is : (a : Answer ChosenSheet) → chosen_as (returned_choice a) ≡ by_value choice_value a
@@ -96,6 +117,6 @@ chosen_is (given c) = refl
 chosen_is (refused n) = refl
 
 pub choice_wrote : (t : List ℕ) (stop : ℕ) (first second : List ℕ) (r : Result Chosen Refusal) → r ≡ chosen_as (returned_choice (choose_answer t stop first second))
-    → Writes choice_numbers chosen_numbers (choose_answer t stop first second) r
-choice_wrote t stop first second r e = wrote choice_value (choose_answer t stop first second) (choose_within t stop first second) choice_numbers chosen_numbers
+    → Writes choice_numbers sheet_numbers (choose_answer t stop first second) r
+choice_wrote t stop first second r e = wrote choice_value (choose_answer t stop first second) (choose_within t stop first second) choice_numbers sheet_numbers
     (λ c q. choice_same c) r (e ∙ chosen_is (choose_answer t stop first second))

@@ -2,7 +2,7 @@
 use mathlib.Core.Path.{◌≡◌, refl, sym, ap, ap₂, ◌∙◌, subst}
 use mathlib.Core.Bool.{Bool, true, false, ◌&&◌}
 use mathlib.Core.List.{List, ◌∷◌, ◌++◌, map}
-use Prim.Native.Nat.{ℕ, zero, suc, ◌+◌, ◌≤◌, ◌<◌}
+use Prim.Native.Nat.{ℕ, zero, suc, ◌+◌, ◌%◌, ◌≤◌, ◌<◌}
 use native.Mathlib.Omega.{arith}
 use lib.Dec.{ltb}
 use lib.ListN.{get_or, take, drop, get_or-map, drop_of_length-le}
@@ -13,7 +13,7 @@ use Rattle.bits.proofs.Logic.{by_test, and_true, and_false_left, and_false_right
 use Rattle.model.specs.Job.{Job, Sound, disk_count, ref_count, ref_at}
 use Rattle.model.specs.Playing.{Action as JobAction}
 use Rattle.model.specs.Playing.{Schedule, State, is_resident, act_all, consumed, play_round}
-use Rattle.model.specs.Rules.{none_missing, action}
+use Rattle.model.specs.Rules.{into_empty, over_min_block, min_block_sooner, waits, none_missing, action}
 use Rattle.model.specs.Rules.{Choice as RuleChoice, Rule as JobRule}
 use Rattle.model.specs.Plans.{each, choices, plan_from}
 use Rattle.model.specs.Page.{reason, reasons_of}
@@ -28,11 +28,19 @@ use Rattle.choosing.specs.Choosing.{rule_of}
 use Rattle.choosing.specs.declared.Rule.{Rule}
 use Rattle.lookup.proofs.Right.{Forward}
 use Rattle.lookup.proofs.StaysRight.{reading, right_read}
-use Rattle.writing.specs.Writing.{action_in, actions_in, reasons_in, idle_action}
+use Rattle.writing.specs.Writing.{action_in, actions_in, reason_byte, reasons_in, idle_action}
 use Rattle.writing.specs.declared.Action.{Action}
 use Rattle.driving.specs.Driving.{PlanInput, PlanState, read_next, can_read, read_from, all_acted, round_acts, round_from, driven_from, reasons_from}
 use Rattle.driving.proofs.Input.{input_of}
 use Rattle.driving.proofs.TurnsRight.{lawful_of, mid_state, many, StandsFor, AfterTurns, at_disk}
+
+-- a reason is below 256
+reason_small : (c : RuleChoice) → reason c % 256 ≡ reason c
+reason_small (into_empty u) = refl
+reason_small (over_min_block u v) = refl
+reason_small min_block_sooner = refl
+reason_small waits = refl
+reason_small none_missing = refl
 
 -- only marks and next read count
 stands_same : {j : Job} {s t : State} {p : PlanState} → s.resident ≡ t.resident → s.next ≡ t.next → StandsFor j s p → StandsFor j t p
@@ -148,7 +156,7 @@ module _ (rule : Rule) (j : Job) (sound : Sound j) {steps : Steps} (forward : Fo
 
     -- for the rule's reasons,
     reasons_are : reasons_in (round_acts k p) ≡ map reason (choices r j s)
-    reasons_are = each_is (λ (a : Action). a.reason) reason refl (λ e l. (turn_all.chosen e l).1)
+    reasons_are = each_is reason_byte reason refl (λ e l. ap (λ (n : ℕ). n % 256) (turn_all.chosen e l).1 ∙ reason_small (r j s e))
 
     -- and what is there after the round stands for the state after it.
     stands_after : StandsFor j (play_round j s (actions_of r j s)) (round_from k p)

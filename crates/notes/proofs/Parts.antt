@@ -28,6 +28,7 @@ use Rattle.mixing.specs.Room.{capped}
 use Rattle.mixing.proofs.Room.{room}
 use Rattle.building.specs.declared.Piece.{Piece}
 use Rattle.building.specs.Building.{number_at, block_from, block_at, laid_from, block_laid, closed_at, counted_by, counted_at, line_by, counted_line}
+use Rattle.building.proofs.Laws.{by_step}
 use Rattle.notes.specs.Readers.{Built, Ended, ItemGot, ItemRefused, ItemRead, NoteGot, NoteRefused, NoteRead}
 use Rattle.notes.proofs.Lines.{ends_front, ends-refs, ends-laid, cap_few, cap_times}
 use Rattle.grammar.proofs.Scan.{scan_on, scan-stuck, scan-deep}
@@ -164,7 +165,8 @@ module _ (t : List ℕ) (from : Place) (e : begins_with 40 (drop from.at t) ≡ 
           let none_left : drop r.at t ≡ [] = drop_past t r.at (omega arith) in
           record { met = λ b o h. opened b o h k ∙ n.scanned (b ∷ o) (omega arith) ∙ rw none_left }
 
-    pub inside-read : (r : Result Piece Met) → NoteRead t place line₀ left₀ line left r → PartRead t from line₀ left₀ line left (closed_at t r)
+    pub inside-read : (r : Result Piece Met) → NoteRead t place line₀ left₀ line left r
+        → PartRead t from line₀ left₀ line left (by_step (closed_at t) r)
     unfolding NoteRead closed_at
     inside-read (Err m) w = inside-refused w
     inside-read (Ok r) w =
@@ -305,7 +307,7 @@ module _ (t : List ℕ) (from : Place) (line₀ left₀ line left : List ℕ) (p
 -- What was read of a part, with the count that may follow; a part that was refused stays refused.
 module _ (t : List ℕ) (from : Place) (line₀ left₀ line left : List ℕ) where
   pub counted-read : (r : Result Piece Met) → length line ≡ 2048 → PartRead t from line₀ left₀ line left r
-      → ItemRead t from line₀ left₀ (counted_line t r from line) left (counted_at t r)
+      → ItemRead t from line₀ left₀ (counted_line t r from line) left (by_step (counted_at t) r)
   unfolding ItemRead counted_line counted_at
   counted-read (Ok r) long w =
       part_counted t from line₀ left₀ line left r long w.0 w.1 (count_at t r.at) (count-read t r.at w.0 w.1.within w.1.ended)

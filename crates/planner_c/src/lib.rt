@@ -49,10 +49,8 @@ pub extern "C" fn planner_plan(
         × (counts.new ≡ counts_written planning_numbers a counts.old)
         × Promised ticket.now stop a }
 {
-    counts::lay_planned(
-        counts,
-        numbered(planner::plan(ticket, stop, short, sparing)),
-    )
+    let planned = numbered(planner::plan(ticket, stop, short, sparing));
+    counts::lay_planned(counts, planned.ok().map(|p| p.mark), planned)
 }
 
 // The choice, from C: its number; in `counts`, as far as that reaches, which sheet is handed back (0 the first, 1 the second) and its length.
@@ -69,8 +67,6 @@ pub extern "C" fn planner_choose(
         × (counts.new ≡ counts_written choice_numbers a counts.old)
         × Preferred ticket.now stop first.now second.now a }
 {
-    counts::lay_chosen(
-        counts,
-        numbered(planner::choose(ticket, stop, first, second)),
-    )
+    let chosen = numbered(planner::choose(ticket, stop, first, second));
+    counts::lay_chosen(counts, chosen.ok().map(|c| c.which), chosen)
 }

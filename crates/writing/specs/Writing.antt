@@ -1,5 +1,5 @@
 -- A round's actions with the reasons for them, disk by disk: the fetched and the discarded block, if any, and the reason. Assumes nothing.
-use Rattle.std.specs.Prelude.{List, map, ℕ, ◌<◌, Option, Some, None, IfSome}
+use Rattle.std.specs.Prelude.{List, map, ℕ, ◌%◌, ◌<◌, Option, Some, None, IfSome}
 use Rattle.model.specs.Playing.{idle, fetch, replace}
 use Rattle.model.specs.Playing.{Action as JobAction}
 use Rattle.writing.specs.declared.Action.{Action}
@@ -22,9 +22,13 @@ action_in a = action_of a.fetched a.discarded
 abbrev pub actions_in : List Action → List JobAction
 actions_in acts = map action_in acts
 
--- The reasons of all disks of a round, each as a byte.
+-- The reason for an action as a byte,
+abbrev pub reason_byte : Action → ℕ
+reason_byte a = a.reason % 256
+
+-- and those of all disks of a round.
 abbrev pub reasons_in : List Action → List ℕ
-reasons_in acts = map (λ a. a.reason) acts
+reasons_in acts = map reason_byte acts
 
 -- The action of a disk of which no block is missing.
 abbrev pub idle_action : Action

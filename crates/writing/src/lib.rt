@@ -18,7 +18,7 @@ ghost use Rattle.writing.specs.Writing.{Small, action_in, actions_in, reasons_in
 pub struct Action {
     pub fetched: Option<u16>,
     pub discarded: Option<u16>,
-    pub reason: u8,
+    pub reason: u16,
 }
 
 impl Action {
@@ -74,14 +74,14 @@ pub fn put_round(sheet: &mut [u8], start: usize, acts: &[Action]) -> usize
     at
 }
 
-// The reasons of a round, disk by disk, a byte each, from the byte `start` on, as far as the slice reaches.
+// The reasons of a round, disk by disk, each as a byte, its remainder by 256, from the byte `start` on, as far as the slice reaches.
 pub fn lay_reasons(reasons: &mut [u8], start: usize, acts: &[Action])
     requires { (length acts.now ≤ 8) × (start < 65536) }
     ensures { reasons.new ≡ laid_at start (reasons_in acts.now) reasons.old }
 {
     for (d, a) in acts.iter().enumerate() {
         if start + d < reasons.len() {
-            reasons[start + d] = a.reason;
+            reasons[start + d] = (a.reason % 256) as u8;
         }
     }
 }

@@ -4,6 +4,8 @@ use Rattle.std.proofs.Common.{◌≡◌, Err, arith, rules, sym, ◌∙◌}
 use Rattle.bits.proofs.Logic.{some_number}
 use Rattle.grammar.specs.Reading.{nothing}
 use Rattle.pieces.proofs.Laws.{begins_within}
+use Rattle.building.specs.Building.{closed_at, counted_at}
+use Rattle.building.proofs.Laws.{of_met}
 use Rattle.notes.specs.Readers.{ItemRead}
 use Rattle.notes.proofs.Parts.{PartRead, part-few, deep-refused, inside-read, block_read, counted-read}
 use Rattle.notes.proofs.SoFar.{so_far_none}
@@ -24,7 +26,7 @@ pub read_item-counted-requires : goal.read_item-counted-requires
 read_item-counted-requires t c =
     let part : PartRead c.args.text.now c.args.from c.args.line.now c.args.left.now c.if-is_at.line c.if-is_at.left c.if-is_at.part =
     elim c.if-is_at.branch [
-      | read_item-then-is_at+else-from-eq0 w ↦ rw (w.line-is, w.left-is, w.part-is, w.closed-part.ensures)
+      | read_item-then-is_at+else-from-eq0 w ↦ rw (w.line-is, w.left-is, w.part-is, of_met (closed_at c.args.text.now) _ w.closed-part.ensures)
           (inside-read c.args.text.now c.args.from (sym w.if-is_at.ensures) (some_number _ w.if-from-eq0.false) c.args.line.now c.args.left.now
           _ _ _ w.read_note-inner.ensures)
       | read_item-else-is_at w ↦ rw (w.line-is, w.left-is, w.part-is, w.read_block-part.ensures.piece, w.read_block-part.ensures.laid)
@@ -36,13 +38,14 @@ pub read_item-returns : goal.read_item-returns
 read_item-returns t c =
     let part : PartRead c.args.text.now c.args.from c.args.line.now c.args.left.now c.if-is_at.line c.if-is_at.left c.if-is_at.part =
     elim c.if-is_at.branch [
-      | read_item-then-is_at+else-from-eq0 w ↦ rw (w.line-is, w.left-is, w.part-is, w.closed-part.ensures)
+      | read_item-then-is_at+else-from-eq0 w ↦ rw (w.line-is, w.left-is, w.part-is, of_met (closed_at c.args.text.now) _ w.closed-part.ensures)
           (inside-read c.args.text.now c.args.from (sym w.if-is_at.ensures) (some_number _ w.if-from-eq0.false) c.args.line.now c.args.left.now
           _ _ _ w.read_note-inner.ensures)
       | read_item-else-is_at w ↦ rw (w.line-is, w.left-is, w.part-is, w.read_block-part.ensures.piece, w.read_block-part.ensures.laid)
           (block_read c.args.text.now c.args.from c.args.line.now c.args.left.now c.requires.line_long (sym w.if-is_at.ensures))
     ] in
-    rw (c.counted.ensures.piece, c.counted.ensures.repeats) (counted-read _ _ _ _ _ _ _ (c.if-is_at.auto.line ∙ c.requires.line_long) part)
+    rw (of_met (counted_at c.args.text.now) _ c.counted.ensures.piece, c.counted.ensures.repeats)
+    (counted-read _ _ _ _ _ _ _ (c.if-is_at.auto.line ∙ c.requires.line_long) part)
 
 pub read_note-loop-item-init : goal.read_note-loop-item-init
 read_note-loop-item-init t c = (nothing, so_far_none c.args.text.now c.args.from c.args.line.now c.args.left.now, c.requires)
